@@ -8,7 +8,7 @@ use crate::field_lines::fields_of;
 use crate::lines::{Fault, Line};
 use crate::parts::Part;
 use crate::reuse::{before_purge, purged};
-use hx_age::{Lifetime, Times, current_age, is_fresh, lifetime_ended_by_purge, staleness, ttl};
+use hx_age::{Lifetime, Times, current_age, is_fresh, lifetime_shortened_by_purge, staleness, ttl};
 use hx_directives::{Directive, Directives, MaxStale, Seconds};
 use hx_fields::Fields;
 use std::alloc::AllocError;
@@ -99,7 +99,7 @@ fn write_age_at(text: &mut String, response: &Part<'_>, now: u64) -> Result<(), 
     };
     let times = purged(Times::of(&response.fields, asked, came), purged_at);
     let directives = Directives::of(*text.allocator(), &response.fields)?;
-    let lifetime = lifetime_ended_by_purge(&times, lifetime_of(&response.fields, &directives));
+    let lifetime = lifetime_shortened_by_purge(&times, lifetime_of(&response.fields, &directives));
     Ok(write_age(text, lifetime, current_age(&times, now))?)
 }
 

@@ -8,7 +8,7 @@ use crate::requests::asked_by;
 use crate::reuse::said_in_front;
 use crate::text::push_shown;
 use crate::validation::conditions_of;
-use hx_fields::{Bytes, END_OF_TIME};
+use hx_fields::{Bytes, START_OF_YEAR_10000};
 use hx_framing::{Response, write_request};
 use hx_hop::{Answered, Asked, Conditions, answered, forward_request, strip};
 use hx_policy::Policy;
@@ -24,7 +24,7 @@ pub fn stripping(text: &mut String, front: &[Line<'_>], case: &Case<'_>) -> Resu
 }
 
 fn answered_at(alloc: Global, part: &Part<'_>, now: u64) -> Result<Answered, Fault> {
-    if now >= END_OF_TIME {
+    if now >= START_OF_YEAR_10000 {
         return Err(part.head.fault("a moment that no date names"));
     }
     let response = Response {

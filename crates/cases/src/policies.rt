@@ -19,7 +19,7 @@ fn with_word(policy: Policy, word: &str) -> Option<Policy> {
             policy.stale_while_revalidate = Some(seconds.parse::<u32>().ok()?);
         }
         ("set-cookie", "not-stored") => policy.stores_cookies = false,
-        ("set-cookie", "removed") => policy.removes_cookies = true,
+        ("set-cookie", "removed") => policy.removes_set_cookie = true,
         ("set-cookie-lifetime", "none") => policy.gives_to_set_cookie = false,
         ("cookies", "private") => policy.gives_to_cookies = false,
         ("errors", "not-stored") => policy.stores_errors = false,
@@ -68,7 +68,7 @@ pub fn write_words(text: &mut String, policy: Policy) -> Result<(), AllocError> 
     let gives = policy.lifetime.is_some() || policy.error_lifetime.is_some();
     for (is_so, word) in [
         (!policy.stores_cookies, " set-cookie=not-stored"),
-        (policy.removes_cookies, " set-cookie=removed"),
+        (policy.removes_set_cookie, " set-cookie=removed"),
         (
             gives && !policy.gives_to_set_cookie,
             " set-cookie-lifetime=none",

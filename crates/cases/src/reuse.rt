@@ -14,7 +14,7 @@ use crate::policies::policy_of;
 use crate::requests::asked_of;
 use hx_age::Times;
 use hx_directives::Directives;
-use hx_fields::{Bytes, END_OF_TIME, Fields};
+use hx_fields::{Bytes, Fields, START_OF_YEAR_10000};
 use hx_hop::{Asked, dated};
 use hx_policy::Policy;
 use hx_reuse::{Decision, ErrorRule, decide, may_serve_on_error};
@@ -101,7 +101,7 @@ pub fn entry_of(
 
 /// A copy of the lines, with a Date.
 fn dated_at(alloc: Global, line: Line<'_>, fields: &Fields, now: u64) -> Result<Fields, Fault> {
-    if now < END_OF_TIME {
+    if now < START_OF_YEAR_10000 {
         Ok(dated(fields.copy(alloc)?, now)?)
     } else {
         Err(line.fault("a moment that no date names"))

@@ -3,7 +3,7 @@
 use crate::text::{block_of, push_words};
 use crate::words::push_shown_in_brackets;
 use proxy_replay::{ReplayFault, replay};
-use proxy_script::{Item, LeadingItem, read_item};
+use proxy_script::{Item, LeadingItemReading, read_item};
 use std::alloc::AllocError;
 
 fn write_item(text: &mut String, item: Item<'_>) -> Result<(), AllocError> {
@@ -20,12 +20,12 @@ fn write_item(text: &mut String, item: Item<'_>) -> Result<(), AllocError> {
 /// Writes the item at the front of a script or of its rest, with its bytes in brackets, and what is behind it.
 pub fn write_front(text: &mut String, first: bool, script: &[u8]) -> Result<(), AllocError> {
     match read_item(first, script) {
-        LeadingItem::Found(item, rest) => {
+        LeadingItemReading::Found(item, rest) => {
             write_item(text, item)?;
             write_behind(text, " then ", rest)
         }
-        LeadingItem::Cut => text.push_str("cut"),
-        LeadingItem::Wrong => text.push_str("wrong"),
+        LeadingItemReading::Cut => text.push_str("cut"),
+        LeadingItemReading::Wrong => text.push_str("wrong"),
     }
 }
 

@@ -14,7 +14,7 @@ use crate::requests::asked_of;
 use crate::tables::text_of;
 use crate::text::push_shown;
 use crate::words::fail_kind;
-use hx_allow::Config;
+use hx_allow::Table;
 use hx_fields::Bytes;
 use hx_framing::Response;
 use hx_hop::Asked;
@@ -254,7 +254,7 @@ fn step_holds(
 
 fn core_of(alloc: Global, front: &[Line<'_>], case: &Case<'_>) -> Result<Core<ListShelf>, Fault> {
     let table = text_of(alloc, front)?;
-    match Config::read(alloc, table.as_slice()) {
+    match Table::read(alloc, table.as_slice()) {
         Ok(config) => {
             let shelf = ListShelf::new(alloc, config.capacity());
             Ok(Core::new(alloc, config, shelf, 1))

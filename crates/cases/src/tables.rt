@@ -8,31 +8,31 @@ use crate::requests::method_of;
 use crate::targets::write_refused;
 use crate::text::push_shown;
 use http::Method;
-use hx_allow::{Config, ConfigFault, MOST_LINES, Verdict};
+use hx_allow::{MOST_LINES, Table, TableFault, Verdict};
 use hx_fields::{Bytes, Fields};
 use hx_target::{Target, read_target};
 use std::alloc::{AllocError, Global};
 use std::str;
 
-fn write_fault(text: &mut String, fault: &ConfigFault) -> Result<(), AllocError> {
+fn write_fault(text: &mut String, fault: &TableFault) -> Result<(), AllocError> {
     match fault {
-        ConfigFault::NotToml => text.push_str("NotToml"),
-        ConfigFault::UnknownKey(key) => {
+        TableFault::NotToml => text.push_str("NotToml"),
+        TableFault::UnknownKey(key) => {
             text.push_str("UnknownKey ")?;
             push_shown(text, key.as_slice())
         }
-        ConfigFault::BadName => text.push_str("BadName"),
-        ConfigFault::BadNumber(key) => write!(text, "BadNumber {}", key.as_str()),
-        ConfigFault::BadHost(line) => write!(text, "BadHost line {line}"),
-        ConfigFault::BadMethod(line) => write!(text, "BadMethod line {line}"),
-        ConfigFault::BadPath(line) => write!(text, "BadPath line {line}"),
-        ConfigFault::BadOrigin(line) => write!(text, "BadOrigin line {line}"),
-        ConfigFault::NoLines => text.push_str("NoLines"),
-        ConfigFault::OutOfMemory => text.push_str("OutOfMemory"),
-        ConfigFault::BadCache(line) => write!(text, "BadCache line {line}"),
-        ConfigFault::BadWord(line, word) => write!(text, "BadWord line {line} {}", word.as_str()),
-        ConfigFault::MethodInLowerCase(line) => write!(text, "MethodInLowerCase line {line}"),
-        ConfigFault::StarInPath(line) => write!(text, "StarInPath line {line}"),
+        TableFault::BadName => text.push_str("BadName"),
+        TableFault::BadNumber(key) => write!(text, "BadNumber {}", key.as_str()),
+        TableFault::BadHost(line) => write!(text, "BadHost line {line}"),
+        TableFault::BadMethod(line) => write!(text, "BadMethod line {line}"),
+        TableFault::BadPath(line) => write!(text, "BadPath line {line}"),
+        TableFault::BadOrigin(line) => write!(text, "BadOrigin line {line}"),
+        TableFault::NoLines => text.push_str("NoLines"),
+        TableFault::OutOfMemory => text.push_str("OutOfMemory"),
+        TableFault::BadCache(line) => write!(text, "BadCache line {line}"),
+        TableFault::BadWord(line, word) => write!(text, "BadWord line {line} {}", word.as_str()),
+        TableFault::MethodInLowerCase(line) => write!(text, "MethodInLowerCase line {line}"),
+        TableFault::StarInPath(line) => write!(text, "StarInPath line {line}"),
     }
 }
 
@@ -54,7 +54,7 @@ fn write_names(text: &mut String, key: &str, names: &[Bytes]) -> Result<(), Allo
 }
 
 /// Writes the words of a line that aren't as without words in versions 1 to 3, each behind a space.
-fn write_line_words(text: &mut String, config: &Config, line: u16) -> Result<(), AllocError> {
+fn write_line_words(text: &mut String, config: &Table, line: u16) -> Result<(), AllocError> {
     write_words(text, config.line_policy(line))?;
     write_names(text, "session-cookies", config.session_cookies(line))?;
     write_names(text, "vary", config.vary(line))?;
@@ -74,7 +74,7 @@ fn write_line_words(text: &mut String, config: &Config, line: u16) -> Result<(),
 }
 
 /// Tells that a table is read, and which of its lines have words or no cache.
-fn write_read(text: &mut String, config: &Config) -> Result<(), AllocError> {
+fn write_read(text: &mut String, config: &Table) -> Result<(), AllocError> {
     text.push_str("read")?;
     for line in 1..=MOST_LINES {
         let mut words = String::new(*text.allocator());
@@ -90,7 +90,7 @@ fn write_read(text: &mut String, config: &Config) -> Result<(), AllocError> {
 
 /// Whether bytes are a table.
 fn write_whether_table(text: &mut String, table: &[u8]) -> Result<(), AllocError> {
-    match Config::read(*text.allocator(), table) {
+    match Table::read(*text.allocator(), table) {
         Ok(config) => write_read(text, &config),
         Err(fault) => write_fault(text, &fault),
     }
@@ -169,14 +169,14 @@ pub fn changed_tables(text: &mut String, front: &[Line<'_>], case: &Case<'_>) ->
 }
 
 /// The line that allows a request, its origin, and its words.
-fn write_allowed(text: &mut String, config: &Config, line: u16) -> Result<(), AllocError> {
+fn write_allowed(text: &mut String, config: &Table, line: u16) -> Result<(), AllocError> {
     write!(text, "allowed by line {line} to {}", config.origin(line))?;
     write_line_words(text, config, line)
 }
 
 fn write_verdict(
     text: &mut String,
-    config: &Config,
+    config: &Table,
     method: &Method,
     target: &Target,
     fields: &Fields,
@@ -224,7 +224,7 @@ fn push_field_lines(fields: &mut Fields, text: &str) -> Result<(), AllocError> {
     Ok(())
 }
 
-fn write_verdict_in(text: &mut String, config: &Config, line: Line<'_>) -> Result<(), Fault> {
+fn write_verdict_in(text: &mut String, config: &Table, line: Line<'_>) -> Result<(), Fault> {
     let alloc = *text.allocator();
     let (request, more) = line.text.split_once(" | ").unwrap_or((line.text, ""));
     let Some((method, host, target)) = request_in(request) else {
@@ -247,7 +247,7 @@ fn write_verdict_in(text: &mut String, config: &Config, line: Line<'_>) -> Resul
 pub fn verdicts(text: &mut String, front: &[Line<'_>], case: &Case<'_>) -> Result<(), Fault> {
     let line = only_line(&[], case)?;
     let table = text_of(*text.allocator(), front)?;
-    match Config::read(*text.allocator(), table.as_slice()) {
+    match Table::read(*text.allocator(), table.as_slice()) {
         Ok(config) => write_verdict_in(text, &config, line),
         Err(_) => Err(line.fault("the group's front is no table")),
     }

@@ -9,8 +9,8 @@ use crate::text::push_shown;
 use crate::words::target_fault_word;
 use hx_fields::{Bytes, Fields};
 use hx_target::{
-    Target, TargetFault, has_bad_escape, has_dot_segment, names_a_dot_segment, read_target,
-    table_path,
+    Target, TargetFault, has_bad_escape, has_dot_segment, read_target, table_path,
+    table_path_has_dot_segment,
 };
 use std::alloc::{AllocError, Global};
 
@@ -74,7 +74,7 @@ fn write_path(text: &mut String, path: &[u8], found: &[u8]) -> Result<(), AllocE
     if has_bad_escape(path) {
         text.push_str(", a bad escape")?;
     }
-    text.push_str(dot_segments_answer(names_a_dot_segment(path), has_dot_segment(found)))
+    text.push_str(dot_segments_answer(table_path_has_dot_segment(path), has_dot_segment(found)))
 }
 
 /// The path for the table, and what is wrong with it.

@@ -10,8 +10,8 @@ use hx_fields::{Bytes, Fields};
 use hx_hop::{Answered, Conditions};
 use hx_store::Entry;
 use hx_validate::{
-    answer_not_modified, answers, client_wants_304, client_wants_304_for_answer, conditions,
-    freshened, has_validator, not_modified,
+    answers, client_wants_304, client_wants_304_for_answer, conditions, freshened, has_validator,
+    not_modified, not_modified_fields_of_answer,
 };
 use hx_vary::FieldNames;
 use std::alloc::{AllocError, Global};
@@ -159,7 +159,7 @@ pub fn not_modified_lines(
         return Err(label.fault("not one stored response"));
     };
     if status_of_answer(stored).is_some() {
-        let fields = answer_not_modified(*text.allocator(), &stored.fields)?;
+        let fields = not_modified_fields_of_answer(*text.allocator(), &stored.fields)?;
         return Ok(write_fields(text, &fields)?);
     }
     let entry = stored_of(*text.allocator(), stored)?;

@@ -6,7 +6,7 @@ use crate::parts::write_word_answer;
 use crate::requests::asked_of;
 use hx_directives::capped_seconds;
 use hx_fields::{Fields, is_token};
-use hx_hop::lists_cache_field;
+use hx_hop::connection_names_caching_field;
 use hx_target::{is_host, number_of_few_digits};
 use hx_validate::{strong_eq, weak_eq};
 use std::alloc::{AllocError, Global};
@@ -59,7 +59,7 @@ fn connection(alloc: Global, value: &[u8]) -> Result<Fields, AllocError> {
 }
 
 fn naming(text: &mut String, value: &[u8]) -> Result<(), Fault> {
-    let names = lists_cache_field(&connection(*text.allocator(), value)?);
+    let names = connection_names_caching_field(&connection(*text.allocator(), value)?);
     write_word_answer(text, either(names, "a cache field", "no cache field"))
 }
 

@@ -10,8 +10,8 @@ use Rattle.hx_age.specs.declared.lifetimes.Lifetime.{Lifetime}
 use Rattle.hx_age.specs.Dates.{date_of}
 
 -- the first member of Age, where it is a number of seconds, else 0 (RFC 9111, section 5.1)
-abbrev pub age_value_of : List Field → ℕ
-age_value_of fields =
+abbrev pub received_age_value : List Field → ℕ
+received_age_value fields =
     unwrap_or (option_map capped (option_and_then seconds_of (slice_get (members_of fields (codes "Age")) 0))) 0
 
 -- the moments of a message; without one valid Date, its date is 0
@@ -19,7 +19,7 @@ abbrev pub times_of_message : List Field → ℕ → ℕ → Times
 times_of_message fields request_time response_time =
     record {
       date = unwrap_or (date_of fields) 0;
-      age_value = age_value_of fields;
+      age_value = received_age_value fields;
       request_time = request_time;
       response_time = response_time;
       expired = None;
@@ -43,14 +43,14 @@ abbrev pub age_of : Times → ℕ → ℕ
 age_of times now = capped (max (apparent_age times) (corrected_age_value times) + (now - times.response_time))
 
 -- a lifetime that ends by this moment at the latest: with the age that the response has then
-abbrev pub lifetime_ended_at : Option ℕ → Times → Lifetime → Lifetime
-lifetime_ended_at None times lifetime = lifetime
-lifetime_ended_at (Some moment) times lifetime =
+abbrev pub lifetime_shortened_to_end_by : Option ℕ → Times → Lifetime → Lifetime
+lifetime_shortened_to_end_by None times lifetime = lifetime
+lifetime_shortened_to_end_by (Some moment) times lifetime =
     record { explicit = lifetime.explicit; seconds = min lifetime.seconds (age_of times moment) }
 
 -- what a purge leaves of a lifetime
-abbrev pub lifetime_ended_by_purge : Times → Lifetime → Lifetime
-lifetime_ended_by_purge times lifetime = lifetime_ended_at times.expired times lifetime
+abbrev pub lifetime_shortened_by_purge : Times → Lifetime → Lifetime
+lifetime_shortened_by_purge times lifetime = lifetime_shortened_to_end_by times.expired times lifetime
 
 -- response_is_fresh = (freshness_lifetime > current_age)
 abbrev pub is_fresh_of : Lifetime → ℕ → Bool

@@ -1,7 +1,7 @@
 //! Ages, and what they leave of a lifetime.
 
 ghost use Rattle.std.specs.Prelude.{◌≡◌};
-ghost use Rattle.hx_age.specs.Age.{age_of, is_fresh_of, lifetime_ended_by_purge, staleness_of, ttl_of};
+ghost use Rattle.hx_age.specs.Age.{age_of, is_fresh_of, lifetime_shortened_by_purge, staleness_of, ttl_of};
 
 use crate::lifetimes::{Lifetime, capped};
 use crate::moments::Times;
@@ -20,8 +20,8 @@ pub fn current_age(times: &Times, now: u64) -> u32
 
 /// What a purge leaves of the lifetime of a response: at most the age that it had at that moment. Without a purge the
 /// whole lifetime.
-pub fn lifetime_ended_by_purge(times: &Times, lifetime: Lifetime) -> Lifetime
-    ensures { result ≡ lifetime_ended_by_purge times.now lifetime }
+pub fn lifetime_shortened_by_purge(times: &Times, lifetime: Lifetime) -> Lifetime
+    ensures { result ≡ lifetime_shortened_by_purge times.now lifetime }
 {
     match times.expired {
         Some(moment) => Lifetime {

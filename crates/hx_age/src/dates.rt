@@ -3,14 +3,14 @@
 ghost use Rattle.std.specs.Prelude.{◌≡◌};
 ghost use Rattle.httpdate.specs.Date.{parse_secs};
 ghost use Rattle.hx_fields.specs.FieldLines.{values_of};
-ghost use Rattle.hx_age.specs.Dates.{single_valid_date};
+ghost use Rattle.hx_age.specs.Dates.{moment_of_single_date};
 
 use httpdate::HttpDate;
 use hx_fields::Fields;
 
 /// The moment of a name that has one line, where that line is a date.
-pub fn single_valid_date(fields: &Fields, name: &[u8]) -> Option<u64>
-    ensures { result ≡ single_valid_date (values_of fields.now name.now) }
+pub fn moment_of_single_date(fields: &Fields, name: &[u8]) -> Option<u64>
+    ensures { result ≡ moment_of_single_date (values_of fields.now name.now) }
 {
     match fields.only_value(name) {
         Some(text) => date_seconds(text),

@@ -8,13 +8,13 @@ ghost use Rattle.hx_age.specs.declared.lifetimes.Lifetime.{Lifetime as StatedLif
 ghost use Rattle.hx_age.specs.Dates.{date_of};
 ghost use Rattle.hx_age.specs.Age.{age_of, apparent_age, corrected_age_value, is_fresh_of, staleness_of};
 ghost use Rattle.hx_age.specs.Age.{times_of_message};
-ghost use Rattle.hx_age.specs.Age.{times_once_purged, lifetime_ended_by_purge, ttl_of};
+ghost use Rattle.hx_age.specs.Age.{times_once_purged, lifetime_shortened_by_purge, ttl_of};
 ghost use Rattle.hx_age.specs.Lifetime.{explicit_lifetime, lifetime_of};
 ghost use Rattle.hx_age.specs.Cases.{fields_with_age, fields_with_cache_control, fields_with_two_dates};
 ghost use Rattle.hx_age.specs.Cases.{fields_with_expires, purged_at, times_from_parts};
 
 /// Made at 100, asked for at 105, received at 110 with an Age of 3, looked at at 120.
-pub fn age_sums()
+pub fn worked_age_sums()
     ensures apparent { apparent_age (times_from_parts 100 3 105 110) ≡ 10 }
     ensures corrected { corrected_age_value (times_from_parts 100 3 105 110) ≡ 8 }
     ensures age { age_of (times_from_parts 100 3 105 110) 120 ≡ 20 }
@@ -44,7 +44,7 @@ pub fn seconds_are_capped()
 {}
 
 /// Seconds that stand twice or can't be read state a lifetime of 0; those of a shared cache come first.
-pub fn repeated_and_bad_seconds()
+pub fn repeated_or_bad_seconds_state_lifetime_0()
     ensures repeated { lifetime_of (fields_with_cache_control (codes "max-age=60, max-age=60")) ≡ explicit_lifetime 0 }
     ensures bad { lifetime_of (fields_with_cache_control (codes "max-age=1x")) ≡ explicit_lifetime 0 }
     ensures quoted { lifetime_of (fields_with_cache_control (codes "max-age=\"60\"")) ≡ explicit_lifetime 60 }
@@ -80,25 +80,25 @@ pub fn worked_times_of_fields()
 /// Received at 100, fresh for a minute, and expired by a purge at 120, a second one at 140 aside: at 130 it is 30
 /// seconds old and 10 seconds stale. What was stale already is as stale as it was.
 pub fn worked_lifetime_ended_by_purge()
-    ensures whole { lifetime_ended_by_purge (times_from_parts 100 0 100 100) (explicit_lifetime 60)
+    ensures whole { lifetime_shortened_by_purge (times_from_parts 100 0 100 100) (explicit_lifetime 60)
         ≡ explicit_lifetime 60 }
-    ensures ended { lifetime_ended_by_purge (purged_at 120) (explicit_lifetime 60) ≡ explicit_lifetime 20 }
+    ensures ended { lifetime_shortened_by_purge (purged_at 120) (explicit_lifetime 60) ≡ explicit_lifetime 20 }
     ensures again { times_once_purged (purged_at 120) 140 ≡ purged_at 120 }
     ensures age { age_of (purged_at 120) 130 ≡ 30 }
-    ensures at_once { is_fresh_of (lifetime_ended_by_purge (purged_at 120) (explicit_lifetime 60)) 20 ≡ false }
-    ensures staleness { staleness_of (lifetime_ended_by_purge (purged_at 120) (explicit_lifetime 60)) 30 ≡ 10 }
-    ensures left { ttl_of (lifetime_ended_by_purge (purged_at 120) (explicit_lifetime 60)) 30 ≡ negsuc 9 }
-    ensures earlier { is_fresh_of (lifetime_ended_by_purge (purged_at 120) (explicit_lifetime 60)) 19 ≡ true }
-    ensures stale_already { lifetime_ended_by_purge (purged_at 200) (explicit_lifetime 60) ≡ explicit_lifetime 60 }
-    ensures as_received { lifetime_ended_by_purge (purged_at 100) (explicit_lifetime 60) ≡ explicit_lifetime 0 }
-    ensures not_stated { lifetime_ended_by_purge (purged_at 120) (record { explicit = false; seconds = 60 })
+    ensures at_once { is_fresh_of (lifetime_shortened_by_purge (purged_at 120) (explicit_lifetime 60)) 20 ≡ false }
+    ensures staleness { staleness_of (lifetime_shortened_by_purge (purged_at 120) (explicit_lifetime 60)) 30 ≡ 10 }
+    ensures left { ttl_of (lifetime_shortened_by_purge (purged_at 120) (explicit_lifetime 60)) 30 ≡ negsuc 9 }
+    ensures earlier { is_fresh_of (lifetime_shortened_by_purge (purged_at 120) (explicit_lifetime 60)) 19 ≡ true }
+    ensures stale_already { lifetime_shortened_by_purge (purged_at 200) (explicit_lifetime 60) ≡ explicit_lifetime 60 }
+    ensures as_received { lifetime_shortened_by_purge (purged_at 100) (explicit_lifetime 60) ≡ explicit_lifetime 0 }
+    ensures not_stated { lifetime_shortened_by_purge (purged_at 120) (record { explicit = false; seconds = 60 })
         ≡ record { explicit = false; seconds = 20 } }
 {}
 
 /// From the moment of a purge on a response isn't fresh, at any moment that isn't before it.
 pub fn a_purged_response_is_never_fresh()
     ensures { (times : Moments) (lifetime : StatedLifetime) (purge now : ℕ) → times.expired ≡ Some purge → purge ≤ now
-        → is_fresh_of (lifetime_ended_by_purge times lifetime) (age_of times now) ≡ false }
+        → is_fresh_of (lifetime_shortened_by_purge times lifetime) (age_of times now) ≡ false }
 {}
 
 /// Its staleness counts from the purge, as long as its age isn't at the cap: it is at least the seconds since, and
@@ -106,25 +106,25 @@ pub fn a_purged_response_is_never_fresh()
 pub fn staleness_counts_from_the_purge()
     ensures least { (times : Moments) (lifetime : StatedLifetime) (purge now : ℕ) → times.expired ≡ Some purge
         → times.response_time ≤ purge → purge ≤ now → age_of times now < 2147483648
-        → now - purge ≤ staleness_of (lifetime_ended_by_purge times lifetime) (age_of times now) }
+        → now - purge ≤ staleness_of (lifetime_shortened_by_purge times lifetime) (age_of times now) }
     ensures exact { (times : Moments) (lifetime : StatedLifetime) (purge now : ℕ) → times.expired ≡ Some purge
         → times.response_time ≤ purge → purge ≤ now → age_of times now < 2147483648
         → is_fresh_of lifetime (age_of times purge) ≡ true
-        → staleness_of (lifetime_ended_by_purge times lifetime) (age_of times now) ≡ now - purge }
+        → staleness_of (lifetime_shortened_by_purge times lifetime) (age_of times now) ≡ now - purge }
 {}
 
 /// Without a purge a lifetime stays what it is. A purge makes none longer, none explicit, and no age another; at a
 /// lesser age than that of the purge the response is as fresh as before. The first of several counts.
 pub fn a_purge_only_shortens_the_lifetime()
     ensures without { (times : Moments) (lifetime : StatedLifetime) → times.expired ≡ None
-        → lifetime_ended_by_purge times lifetime ≡ lifetime }
+        → lifetime_shortened_by_purge times lifetime ≡ lifetime }
     ensures not_longer { (times : Moments) (lifetime : StatedLifetime)
-        → (lifetime_ended_by_purge times lifetime).seconds ≤ lifetime.seconds }
+        → (lifetime_shortened_by_purge times lifetime).seconds ≤ lifetime.seconds }
     ensures explicit { (times : Moments) (lifetime : StatedLifetime)
-        → (lifetime_ended_by_purge times lifetime).explicit ≡ lifetime.explicit }
+        → (lifetime_shortened_by_purge times lifetime).explicit ≡ lifetime.explicit }
     ensures younger { (times : Moments) (lifetime : StatedLifetime) (purge age : ℕ) → times.expired ≡ Some purge
         → age < age_of times purge
-        → is_fresh_of (lifetime_ended_by_purge times lifetime) age ≡ is_fresh_of lifetime age }
+        → is_fresh_of (lifetime_shortened_by_purge times lifetime) age ≡ is_fresh_of lifetime age }
     ensures age { (times : Moments) (purge now : ℕ) → age_of (times_once_purged times purge) now ≡ age_of times now }
     ensures marked { (times : Moments) (purge : ℕ) → times.expired ≡ None
         → (times_once_purged times purge).expired ≡ Some purge }

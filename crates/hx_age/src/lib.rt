@@ -10,7 +10,7 @@ pub mod laws;
 mod lifetimes;
 mod moments;
 
-pub use ages::{current_age, is_fresh, lifetime_ended_by_purge, staleness, ttl};
-pub use dates::single_valid_date;
+pub use ages::{current_age, is_fresh, lifetime_shortened_by_purge, staleness, ttl};
+pub use dates::moment_of_single_date;
 pub use lifetimes::Lifetime;
 pub use moments::Times;

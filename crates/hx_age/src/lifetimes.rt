@@ -5,7 +5,7 @@ ghost use Rattle.hx_directives.specs.Seconds.{capped};
 ghost use Rattle.hx_directives.specs.Occurrences.{occurrences_of};
 ghost use Rattle.hx_age.specs.Lifetime.{explicit_lifetime, seconds_or_zero, seconds_from_date_to_expires, lifetime_of};
 
-use crate::dates::single_valid_date;
+use crate::dates::moment_of_single_date;
 use hx_directives::{Directive, Directives, MOST_SECONDS, Seconds};
 use hx_fields::Fields;
 
@@ -61,8 +61,8 @@ fn seconds_or_zero(seconds: Seconds) -> u64
 fn seconds_from_date_to_expires(fields: &Fields) -> u64
     ensures { result ≡ seconds_from_date_to_expires fields.now }
 {
-    let expires = single_valid_date(fields, b"Expires").unwrap_or(0);
-    let date = single_valid_date(fields, b"Date").unwrap_or(0);
+    let expires = moment_of_single_date(fields, b"Expires").unwrap_or(0);
+    let date = moment_of_single_date(fields, b"Date").unwrap_or(0);
     expires.saturating_sub(date)
 }
 

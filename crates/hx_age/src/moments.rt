@@ -1,9 +1,9 @@
 //! The moments from which an age is counted.
 
 ghost use Rattle.std.specs.Prelude.{◌≡◌};
-ghost use Rattle.hx_age.specs.Age.{age_value_of, times_once_purged, times_of_message};
+ghost use Rattle.hx_age.specs.Age.{received_age_value, times_once_purged, times_of_message};
 
-use crate::dates::single_valid_date;
+use crate::dates::moment_of_single_date;
 use hx_directives::capped_seconds;
 use hx_fields::Fields;
 
@@ -28,7 +28,7 @@ impl Times {
         ensures { result ≡ times_of_message fields.now request_time response_time }
     {
         Times {
-            date: single_valid_date(fields, b"Date").unwrap_or(0),
+            date: moment_of_single_date(fields, b"Date").unwrap_or(0),
             age_value: age_value(fields),
             request_time,
             response_time,
@@ -49,7 +49,7 @@ impl Times {
 }
 
 fn age_value(fields: &Fields) -> u32
-    ensures { result ≡ age_value_of fields.now }
+    ensures { result ≡ received_age_value fields.now }
 {
     match fields.first_member(b"Age") {
         Some(member) => capped_seconds(member).unwrap_or(0),

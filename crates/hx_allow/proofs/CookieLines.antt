@@ -13,10 +13,10 @@ use Rattle.hx_fields.specs.FieldLines.{is_named, values_of}
 use Rattle.hx_fields.specs.Names.{is_blank, is_nonempty, trimmed}
 use Rattle.hx_fields.specs.Tokens.{is_token_byte, is_token}
 use Rattle.hx_target.specs.declared.targets.Target.{Target}
-use Rattle.hx_allow.specs.Cookies.{semicolon, equals_sign, cookie_pairs_of_line, text_before_equals_sign, cookie_name_of, is_cookie_among, line_has_cookie_among, has_cookie_among, CookiePair, cookie_pair_text, is_cookie_pair, cookie_line_text}
-use Rattle.hx_allow.specs.Matching.{matches_line, route_over, verdict_from, verdict_of, session_cookies_of, has_session_cookie_of_line, verdict_after_cookie_check}
+use Rattle.hx_allow.specs.Cookies.{semicolon, equals_sign, cookie_pairs_of_line, text_before_equals_sign, cookie_name_of, is_cookie_among, line_has_cookie_among, has_cookie_among, CookiePair, cookie_pair_text, is_cookie_pair, cookie_field_value}
+use Rattle.hx_allow.specs.Matching.{matches_line, route_over_line, verdict_from, verdict_of, session_cookies_of, request_has_session_cookie_of_line, verdict_routed_by_session_cookies}
 use Rattle.hx_allow.specs.TableLines.{Line}
-use Rattle.hx_allow.specs.declared.verdicts.RequestRoute.{RequestRoute}
+use Rattle.hx_allow.specs.declared.verdicts.RouteOverLine.{RouteOverLine}
 use Rattle.hx_allow.specs.declared.verdicts.Verdict.{Verdict}
 use Rattle.hx_allow.specs.declared.verdicts.Verdict.TheVariants.{Allowed, DeniedBy, NoLine, Looped, Purged}
 use Rattle.hx_allow.proofs.ViaWritten.{run_len, run_taken, other_byte, all_of_kind}
@@ -39,31 +39,31 @@ none_are_empty [] e = refl
 none_are_empty (name ∷ names) e = absurd (false≢true (sym (ne_eqb (length (name ∷ names)) 0 (λ q. absurd (omega (arith, q)))) ∙ e))
 
 -- a verdict on method and target alone sends nothing past the store
-goes_over : (n : ℕ) (lines : List Line) (method : List ℕ) (target : Target) (route : RequestRoute) → verdict_from n lines method target ≡ Allowed route → route ≡ route_over route.number
+goes_over : (n : ℕ) (lines : List Line) (method : List ℕ) (target : Target) (route : RouteOverLine) → verdict_from n lines method target ≡ Allowed route → route ≡ route_over_line route.number
 goes_over n [] method target route e = cc
 goes_over n (line ∷ lines) method target route e = by_tests (matches_line line method target) (is_some line.origin) (goes_over (n + 1) lines method target route) e
   where
-    is_over : (r : RequestRoute) → Allowed (route_over n) ≡ Allowed r → r ≡ route_over r.number
-    is_over r e = let same : route_over n ≡ r = cc in subst (λ (q : RequestRoute). q ≡ route_over q.number) same refl
+    is_over : (r : RouteOverLine) → Allowed (route_over_line n) ≡ Allowed r → r ≡ route_over_line r.number
+    is_over r e = let same : route_over_line n ≡ r = cc in subst (λ (q : RouteOverLine). q ≡ route_over_line q.number) same refl
 
-    by_tests : (matches allows : Bool) → (verdict_from (n + 1) lines method target ≡ Allowed route → route ≡ route_over route.number) →
-        cond matches (cond allows (Allowed (route_over n)) (DeniedBy n)) (verdict_from (n + 1) lines method target) ≡ Allowed route → route ≡ route_over route.number
+    by_tests : (matches allows : Bool) → (verdict_from (n + 1) lines method target ≡ Allowed route → route ≡ route_over_line route.number) →
+        cond matches (cond allows (Allowed (route_over_line n)) (DeniedBy n)) (verdict_from (n + 1) lines method target) ≡ Allowed route → route ≡ route_over_line route.number
     by_tests true true later e = is_over route e
     by_tests true false later e = cc
     by_tests false allows later e = later e
 
-pub over_its_line : (lines : List Line) (method : List ℕ) (target : Target) (route : RequestRoute) → verdict_of lines method target ≡ Allowed route → route ≡ route_over route.number
+pub over_its_line : (lines : List Line) (method : List ℕ) (target : Target) (route : RouteOverLine) → verdict_of lines method target ≡ Allowed route → route ≡ route_over_line route.number
 unfolding verdict_of
 over_its_line lines method target route e = goes_over 1 lines method target route e
 
 -- where a line names none of the cookies of a request it goes as its method and target say
 pub none_past : (lines : List Line) (method : List ℕ) (target : Target) (fields : List Field) → ((n : ℕ) → session_cookies_of lines n ≡ []) →
-    verdict_after_cookie_check lines fields (verdict_of lines method target) ≡ verdict_of lines method target
+    verdict_routed_by_session_cookies lines fields (verdict_of lines method target) ≡ verdict_of lines method target
 none_past lines method target fields none = by_verdict (verdict_of lines method target) refl
   where
-    by_verdict : (v : Verdict) → verdict_of lines method target ≡ v → verdict_after_cookie_check lines fields v ≡ v
+    by_verdict : (v : Verdict) → verdict_of lines method target ≡ v → verdict_routed_by_session_cookies lines fields v ≡ v
     by_verdict (Allowed route) e =
-        let stays : has_session_cookie_of_line lines route.number fields ≡ false = ap (λ names. has_cookie_among names fields) (none route.number) ∙ without_names fields in
+        let stays : request_has_session_cookie_of_line lines route.number fields ≡ false = ap (λ names. has_cookie_among names fields) (none route.number) ∙ without_names fields in
         ap (λ past. Allowed (record { number = route.number; past_store = past })) stays ∙ ap Allowed (sym (over_its_line lines method target route e))
     by_verdict (DeniedBy n) e = refl
     by_verdict NoLine e = refl
@@ -172,7 +172,7 @@ module _ (names : List (List ℕ)) where
       ap (λ own. list_any (λ name. bytes_eq name own) names) (name_is_read front pair blanks (and_parts (is_token pair.name) (list_all (is_other semicolon) pair.value) is).0)
 
   line_is_read : (front : List ℕ) (pair : CookiePair) (more : List CookiePair) → list_all is_blank front ≡ true → list_all is_cookie_pair (pair ∷ more) ≡ true →
-      found (front ++ cookie_line_text pair more) ≡ list_any names_pair (pair ∷ more)
+      found (front ++ cookie_field_value pair more) ≡ list_any names_pair (pair ∷ more)
   line_is_read front pair [] blanks all =
       let is = (and_parts (is_cookie_pair pair) true all).0 in
       ap (list_any (is_cookie_among names)) (slice_split_none (λ b. b == semicolon) (front ++ cookie_pair_text pair) (part_is_whole front pair blanks is))
@@ -180,7 +180,7 @@ module _ (names : List (List ℕ)) where
   line_is_read front pair (next ∷ more) blanks all =
       let parts = and_parts (is_cookie_pair pair) (list_all is_cookie_pair (next ∷ more)) all in
       let text = front ++ cookie_pair_text pair in
-      let rest = (32 ∷ []) ++ cookie_line_text next more in
+      let rest = (32 ∷ []) ++ cookie_field_value next more in
       ap found (sym (append_assoc front (cookie_pair_text pair) (semicolon ∷ rest)))
       ∙ (
       ap (list_any (is_cookie_among names)) (slice_split_at (λ b. b == semicolon) text semicolon rest (part_is_whole front pair blanks parts.0) refl)
@@ -190,5 +190,5 @@ module _ (names : List (List ℕ)) where
       )
       )
 
-  pub read_as_written : (pair : CookiePair) (more : List CookiePair) → list_all is_cookie_pair (pair ∷ more) ≡ true → line_has_cookie_among names (cookie_line_text pair more) ≡ list_any names_pair (pair ∷ more)
+  pub read_as_written : (pair : CookiePair) (more : List CookiePair) → list_all is_cookie_pair (pair ∷ more) ≡ true → line_has_cookie_among names (cookie_field_value pair more) ≡ list_any names_pair (pair ∷ more)
   read_as_written pair more all = line_is_read [] pair more refl all

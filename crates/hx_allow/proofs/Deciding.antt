@@ -7,10 +7,10 @@ use Rattle.hx_target.specs.declared.targets.Target.{Target}
 use Rattle.hx_allow.specs.Deciding.{deciding_line, lines_that_match_host}
 use Rattle.hx_allow.specs.TableLines.{Line}
 use Rattle.hx_allow.specs.LineHosts.{any_host_matches}
-use Rattle.hx_allow.specs.Matching.{matches_method, any_path_matches, matches_line, route_over, verdict_of_line, verdict_from, verdict_of, deciding_line_number, line_of_number}
+use Rattle.hx_allow.specs.Matching.{matches_method, any_path_matches, matches_line, route_over_line, verdict_of_line, verdict_from, verdict_of, deciding_line_number, line_of_number}
 use Rattle.hx_allow.specs.declared.verdicts.Verdict.TheVariants.{Allowed, DeniedBy}
 
-number_by : (t : Bool) (k : ℕ) → deciding_line_number (cond t (Allowed (route_over k)) (DeniedBy k)) ≡ Some k
+number_by : (t : Bool) (k : ℕ) → deciding_line_number (cond t (Allowed (route_over_line k)) (DeniedBy k)) ≡ Some k
 number_by true k = refl
 number_by false k = refl
 

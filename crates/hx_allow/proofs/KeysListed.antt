@@ -8,9 +8,9 @@ use Rattle.std.proofs.lemmas.List.Elements.{All-nil, All-cons}
 use Rattle.toml.specs.Data.{Members, get_member}
 use Rattle.hx_policy.specs.Policies.{default_policy_with_hidden_tags}
 use Rattle.hx_allow.specs.LineTables.{line_key_has_good_value, first_bad_key}
-use Rattle.hx_allow.specs.LineWords.{key_has_text, key_word_of_error_lifetime, line_caches, removes_cookies, gives_lifetimes_to_set_cookie, gives_lifetimes_to_cookies, forwards_conditions_of_line, forwards_ranges_of_line, fills_ranges, policy_of_line_table}
+use Rattle.hx_allow.specs.LineWords.{text_of_key_equals, option_that_gives_error_lifetime, line_caches, removes_set_cookie, gives_lifetimes_to_set_cookie, gives_lifetimes_to_cookie_requests, forwards_conditions_of_line, forwards_ranges_of_line, fills_ranges, policy_of_line_table}
 use Rattle.hx_allow.specs.Keys.{key_of_line_option}
-use Rattle.hx_allow.specs.Rows.{line_keys, word_row, has_keys_of}
+use Rattle.hx_allow.specs.Rows.{all_line_keys, word_row, has_keys_of}
 use Rattle.hx_allow.specs.Versions.{LineHasNoCachingKey}
 use Rattle.hx_allow.specs.declared.config_faults.LineOption.TheVariants.{Lifetime, ErrorLifetime, LifetimeMost, StaleIfError, SetCookie, Cookies, SessionCookies, Errors, RequestDirectives, Wait, Explain, Conditions, Loops, StaleWhileRevalidate, Vary, OriginTimeout, PurgeKey, Ranges, WaitTimeout}
 use Rattle.hx_allow.specs.declared.rows.LineKey.{LineKey}
@@ -21,7 +21,7 @@ use Rattle.hx_allow.specs.declared.values.TableVersion.TheVariants.{One, Two, Th
 use Rattle.hx_allow.proofs.LinesRead.{none_applies}
 
 -- what holds of the list holds of each key
-listed : (P : LineKey → Type 0) → All P line_keys → (key : LineKey) → P key
+listed : (P : LineKey → Type 0) → All P all_line_keys → (key : LineKey) → P key
 listed P all Host = all 0 Host (omega arith)
 listed P all Methods = all 1 Host (omega arith)
 listed P all Path = all 2 Host (omega arith)
@@ -49,7 +49,7 @@ listed P all (Word WaitTimeout) = all 23 Host (omega arith)
 
 -- where no word on caching stands, the policy is that of the versions before the third, in a version before the fourth,
 -- or where the line takes none
-error_lifetime_is_of_caching : (version : TableVersion) → (word_row (key_word_of_error_lifetime version)).place ≡ CachingLine
+error_lifetime_is_of_caching : (version : TableVersion) → (word_row (option_that_gives_error_lifetime version)).place ≡ CachingLine
 error_lifetime_is_of_caching One = refl
 error_lifetime_is_of_caching Two = refl
 error_lifetime_is_of_caching Three = refl
@@ -59,9 +59,9 @@ and_false : (b : Bool) → (b && false) ≡ false
 and_false true = refl
 and_false false = refl
 
-pub plain_policy : (version : TableVersion) (ms : Members) → LineHasNoCachingKey ms → (has_keys_of version Four && line_caches ms) ≡ false → policy_of_line_table version ms ≡ default_policy_with_hidden_tags (has_keys_of version Four) (not (key_has_text (codes "cache") (codes "off") ms))
+pub plain_policy : (version : TableVersion) (ms : Members) → LineHasNoCachingKey ms → (has_keys_of version Four && line_caches ms) ≡ false → policy_of_line_table version ms ≡ default_policy_with_hidden_tags (has_keys_of version Four) (not (text_of_key_equals (codes "cache") (codes "off") ms))
 plain_policy version ms none older =
-    let error_lifetime : get_member (key_of_line_option (key_word_of_error_lifetime version)) ms ≡ None = none (key_word_of_error_lifetime version) (error_lifetime_is_of_caching version) in
+    let error_lifetime : get_member (key_of_line_option (option_that_gives_error_lifetime version)) ms ≡ None = none (option_that_gives_error_lifetime version) (error_lifetime_is_of_caching version) in
     let lifetime : get_member (codes "lifetime") ms ≡ None = none Lifetime refl in
     let lifetime_most : get_member (codes "lifetime-most") ms ≡ None = none LifetimeMost refl in
     let stale_if_error : get_member (codes "stale-if-error") ms ≡ None = none StaleIfError refl in
@@ -71,9 +71,9 @@ plain_policy version ms none older =
     let request_directives : get_member (codes "request-directives") ms ≡ None = none RequestDirectives refl in
     let wait : get_member (codes "wait") ms ≡ None = none Wait refl in
     let explain : get_member (codes "explain") ms ≡ None = none Explain refl in
-    let cookies : gives_lifetimes_to_cookies version ms ≡ true = rw older refl in
+    let cookies : gives_lifetimes_to_cookie_requests version ms ≡ true = rw older refl in
     let conditions : forwards_conditions_of_line version ms ≡ true = rw older refl in
-    let removed : removes_cookies version ms ≡ false = rw set_cookie (and_false (has_keys_of version Four)) in
+    let removed : removes_set_cookie version ms ≡ false = rw set_cookie (and_false (has_keys_of version Four)) in
     let given : gives_lifetimes_to_set_cookie version ms ≡ true = rw older refl in
     let ranges : forwards_ranges_of_line version ms ≡ true = rw older refl in
     let ranges_word : get_member (codes "ranges") ms ≡ None = none Ranges refl in
@@ -107,11 +107,11 @@ module _ {A : Type 0} (p : A → Bool) where
       by_first true is e rest = rest e
       by_first false is e rest = cc
 
-pub each_key : (p : LineKey → Bool) → list_all p line_keys ≡ true → (key : LineKey) → p key ≡ true
-each_key p e = listed (λ key. p key ≡ true) (all_pass p line_keys e)
+pub each_key : (p : LineKey → Bool) → list_all p all_line_keys ≡ true → (key : LineKey) → p key ≡ true
+each_key p e = listed (λ key. p key ≡ true) (all_pass p all_line_keys e)
 
 pub each_good : (version : TableVersion) (ms : Members) → first_bad_key version ms ≡ None → (key : LineKey) → line_key_has_good_value version ms key ≡ true
-each_good version ms none = listed (λ key. line_key_has_good_value version ms key ≡ true) (none_fails (line_key_has_good_value version ms) line_keys none)
+each_good version ms none = listed (λ key. line_key_has_good_value version ms key ≡ true) (none_fails (line_key_has_good_value version ms) all_line_keys none)
 
 find_alike : (p q : LineKey → Bool) (keys : List LineKey) → ((key : LineKey) → p key ≡ q key) → find (λ key. not (p key)) keys ≡ find (λ key. not (q key)) keys
 find_alike p q [] same = refl
@@ -119,7 +119,7 @@ find_alike p q (key ∷ keys) same = rw (same key) (rw (find_alike p q keys same
 
 -- where each key is good in both of two versions or in none, the first that isn't is one
 pub same_bad_key : (version other : TableVersion) (ms : Members) → ((key : LineKey) → line_key_has_good_value version ms key ≡ line_key_has_good_value other ms key) → first_bad_key version ms ≡ first_bad_key other ms
-same_bad_key version other ms same = find_alike (line_key_has_good_value version ms) (line_key_has_good_value other ms) line_keys same
+same_bad_key version other ms same = find_alike (line_key_has_good_value version ms) (line_key_has_good_value other ms) all_line_keys same
 
 pub any_alike : (p q : LineKey → Bool) (keys : List LineKey) → ((key : LineKey) → p key ≡ q key) → list_any p keys ≡ list_any q keys
 any_alike p q [] same = refl

@@ -10,10 +10,10 @@ use Rattle.std.proofs.lemmas.Slice.Eq.{bytes_eq-Decides}
 use Rattle.std.proofs.lemmas.Map.Text.{is_eq-slice_cmp}
 use Rattle.toml.specs.Data.{Data, Members, no_members, member, get_member, is_before, is_sorted, members_are_sorted}
 use Rattle.hx_allow.specs.LineTables.{line_fault}
-use Rattle.hx_allow.specs.Tables.{table_fault, judge_table, table_version_of, BytesAreToml, BytesReadAsTable}
+use Rattle.hx_allow.specs.Tables.{table_fault, config_or_fault_of_table, table_version_of, BytesAreToml, BytesReadAsTable}
 use Rattle.hx_allow.specs.Unknown.{KeyIsInTable, KeyPrecedesKey, IsLeastUnknownKey}
 use Rattle.hx_allow.specs.Values.{is_known_key, first_unknown}
-use Rattle.hx_allow.specs.declared.config_faults.ConfigFault.TheVariants.{UnknownKey}
+use Rattle.hx_allow.specs.declared.config_faults.TableFault.TheVariants.{UnknownKey}
 use Rattle.hx_allow.specs.declared.values.Scope.{Scope}
 use Rattle.hx_allow.specs.declared.values.Scope.TheVariants.{Top, Line}
 use Rattle.hx_allow.specs.declared.values.TableVersion.{TableVersion}
@@ -129,8 +129,8 @@ least_is_first scope ms key sorted least = by_first (first_unknown scope ms) ref
     by_first None none = let bad = sym least.unknown ∙ each_known scope ms key none least.is_present in cc
     by_first (Some k) found_fault = ap Some (one_least scope ms k key (first_is_least scope ms k sorted found_fault) least)
 
-pub found_at_top : (t : Members) (key : List ℕ) → members_are_sorted t ≡ true → IsLeastUnknownKey (Top (table_version_of t)) t key → judge_table t ≡ Err (UnknownKey key)
-unfolding judge_table table_fault
+pub found_at_top : (t : Members) (key : List ℕ) → members_are_sorted t ≡ true → IsLeastUnknownKey (Top (table_version_of t)) t key → config_or_fault_of_table t ≡ Err (UnknownKey key)
+unfolding config_or_fault_of_table table_fault
 found_at_top t key sorted least = rw (least_is_first (Top (table_version_of t)) t key sorted least) refl
 
 pub found_in_line : (version : TableVersion) (n : ℕ) (ms : Members) (key : List ℕ) → members_are_sorted ms ≡ true → IsLeastUnknownKey (Line version) ms key → line_fault version n ms ≡ Some (UnknownKey key)

@@ -9,7 +9,7 @@ use Rattle.std.proofs.lemmas.Bool.Decides.{nat_tests}
 use Rattle.std.proofs.lemmas.Slice.Eq.{bytes_eq-Decides}
 use Rattle.std.proofs.lemmas.List.Folds.{list_any-append}
 use Rattle.hx_allow.specs.Index.{parent_domains_of}
-use Rattle.hx_allow.specs.LineHosts.{labels_with_first_byte, labels_of, label_suffixes_of, are_same_labels, is_below_host}
+use Rattle.hx_allow.specs.LineHosts.{labels_with_byte_in_front, labels_of, label_suffixes_of, labels_are_byte_equal, is_below_host}
 
 -- ---- labels spell one host
 
@@ -17,7 +17,7 @@ abbrev is_filled : List (List ℕ) → Bool
 is_filled [] = false
 is_filled (label ∷ labels) = true
 
-filled_with : (b : ℕ) (labels : List (List ℕ)) → is_filled (labels_with_first_byte b labels) ≡ true
+filled_with : (b : ℕ) (labels : List (List ℕ)) → is_filled (labels_with_byte_in_front b labels) ≡ true
 filled_with b [] = refl
 filled_with b (label ∷ labels) = refl
 
@@ -25,23 +25,23 @@ filled : (text : List ℕ) → is_filled (labels_of text) ≡ true
 filled [] = refl
 filled (b ∷ text) = by_dot (b == 46)
   where
-    by_dot : (dot : Bool) → is_filled (cond dot ([] ∷ labels_of text) (labels_with_first_byte b (labels_of text))) ≡ true
+    by_dot : (dot : Bool) → is_filled (cond dot ([] ∷ labels_of text) (labels_with_byte_in_front b (labels_of text))) ≡ true
     by_dot true = refl
     by_dot false = filled_with b (labels_of text)
 
-none_is_same : (labels : List (List ℕ)) → is_filled labels ≡ true → are_same_labels [] labels ≡ false
+none_is_same : (labels : List (List ℕ)) → is_filled labels ≡ true → labels_are_byte_equal [] labels ≡ false
 none_is_same [] e = absurd cc
 none_is_same (label ∷ labels) e = refl
 
-same_as_none : (labels : List (List ℕ)) → is_filled labels ≡ true → are_same_labels labels [] ≡ false
+same_as_none : (labels : List (List ℕ)) → is_filled labels ≡ true → labels_are_byte_equal labels [] ≡ false
 same_as_none [] e = absurd cc
 same_as_none (label ∷ labels) e = refl
 
-empty_in_front : (b : ℕ) (labels others : List (List ℕ)) → are_same_labels ([] ∷ others) (labels_with_first_byte b labels) ≡ false
+empty_in_front : (b : ℕ) (labels others : List (List ℕ)) → labels_are_byte_equal ([] ∷ others) (labels_with_byte_in_front b labels) ≡ false
 empty_in_front b [] others = refl
 empty_in_front b (label ∷ labels) others = refl
 
-empty_behind : (b : ℕ) (labels others : List (List ℕ)) → are_same_labels (labels_with_first_byte b labels) ([] ∷ others) ≡ false
+empty_behind : (b : ℕ) (labels others : List (List ℕ)) → labels_are_byte_equal (labels_with_byte_in_front b labels) ([] ∷ others) ≡ false
 empty_behind b [] others = refl
 empty_behind b (label ∷ labels) others = refl
 
@@ -50,10 +50,10 @@ and_assoc true b c = refl
 and_assoc false b c = refl
 
 both_with : (a b : ℕ) (labels others : List (List ℕ)) → is_filled labels ≡ true → is_filled others ≡ true →
-    are_same_labels (labels_with_first_byte a labels) (labels_with_first_byte b others) ≡ ((a == b) && are_same_labels labels others)
+    labels_are_byte_equal (labels_with_byte_in_front a labels) (labels_with_byte_in_front b others) ≡ ((a == b) && labels_are_byte_equal labels others)
 both_with a b [] others e f = absurd cc
 both_with a b (label ∷ labels) [] e f = absurd cc
-both_with a b (label ∷ labels) (other ∷ others) e f = and_assoc (a == b) (bytes_eq label other) (are_same_labels labels others)
+both_with a b (label ∷ labels) (other ∷ others) e f = and_assoc (a == b) (bytes_eq label other) (labels_are_byte_equal labels others)
 
 dots_differ : (a b : ℕ) → (a == 46) ≡ true → (b == 46) ≡ false → (a == b) ≡ false
 dots_differ a b e f = grind (arith, nat_tests)
@@ -65,22 +65,22 @@ both_dots : (a b : ℕ) → (a == 46) ≡ true → (b == 46) ≡ true → (a == 
 both_dots a b e f = grind (arith, nat_tests)
 
 -- two hosts have the same labels where they have the same bytes
-pub same_text : (host asked : List ℕ) → are_same_labels (labels_of host) (labels_of asked) ≡ bytes_eq host asked
+pub same_text : (host asked : List ℕ) → labels_are_byte_equal (labels_of host) (labels_of asked) ≡ bytes_eq host asked
 same_text [] [] = refl
 same_text [] (b ∷ asked) = by_dot (b == 46)
   where
-    by_dot : (dot : Bool) → are_same_labels ([] ∷ []) (cond dot ([] ∷ labels_of asked) (labels_with_first_byte b (labels_of asked))) ≡ false
+    by_dot : (dot : Bool) → labels_are_byte_equal ([] ∷ []) (cond dot ([] ∷ labels_of asked) (labels_with_byte_in_front b (labels_of asked))) ≡ false
     by_dot true = none_is_same (labels_of asked) (filled asked)
     by_dot false = empty_in_front b (labels_of asked) []
 same_text (a ∷ host) [] = by_dot (a == 46)
   where
-    by_dot : (dot : Bool) → are_same_labels (cond dot ([] ∷ labels_of host) (labels_with_first_byte a (labels_of host))) ([] ∷ []) ≡ false
+    by_dot : (dot : Bool) → labels_are_byte_equal (cond dot ([] ∷ labels_of host) (labels_with_byte_in_front a (labels_of host))) ([] ∷ []) ≡ false
     by_dot true = same_as_none (labels_of host) (filled host)
     by_dot false = empty_behind a (labels_of host) []
 same_text (a ∷ host) (b ∷ asked) = by_dots (a == 46) (b == 46) refl refl (same_text host asked)
   where
-    by_dots : (s t : Bool) → (a == 46) ≡ s → (b == 46) ≡ t → are_same_labels (labels_of host) (labels_of asked) ≡ bytes_eq host asked →
-        are_same_labels (cond s ([] ∷ labels_of host) (labels_with_first_byte a (labels_of host))) (cond t ([] ∷ labels_of asked) (labels_with_first_byte b (labels_of asked))) ≡ ((a == b) && bytes_eq host asked)
+    by_dots : (s t : Bool) → (a == 46) ≡ s → (b == 46) ≡ t → labels_are_byte_equal (labels_of host) (labels_of asked) ≡ bytes_eq host asked →
+        labels_are_byte_equal (cond s ([] ∷ labels_of host) (labels_with_byte_in_front a (labels_of host))) (cond t ([] ∷ labels_of asked) (labels_with_byte_in_front b (labels_of asked))) ≡ ((a == b) && bytes_eq host asked)
     by_dots true true e f rest = rest ∙ sym (ap (λ t. t && bytes_eq host asked) (both_dots a b e f))
     by_dots true false e f rest = empty_in_front b (labels_of asked) (labels_of host) ∙ sym (ap (λ t. t && bytes_eq host asked) (dots_differ a b e f))
     by_dots false true e f rest = empty_behind a (labels_of host) (labels_of asked) ∙ sym (ap (λ t. t && bytes_eq host asked) (differ_from_dot a b e f))
@@ -88,7 +88,7 @@ same_text (a ∷ host) (b ∷ asked) = by_dots (a == 46) (b == 46) refl refl (sa
 
 -- ---- what a host is below stands behind its dots
 
-ends_with_byte : (b : ℕ) (labels : List (List ℕ)) → is_filled labels ≡ true → label_suffixes_of (labels_with_first_byte b labels) ≡ label_suffixes_of labels
+ends_with_byte : (b : ℕ) (labels : List (List ℕ)) → is_filled labels ≡ true → label_suffixes_of (labels_with_byte_in_front b labels) ≡ label_suffixes_of labels
 ends_with_byte b [] e = absurd cc
 ends_with_byte b (label ∷ labels) e = refl
 
@@ -97,9 +97,9 @@ below_by_dots host [] = ap (λ t. t || false) (same_as_none (labels_of host) (fi
 below_by_dots host (b ∷ asked) = by_dot (b == 46) (below_by_dots host asked)
   where
     by_dot : (dot : Bool) → is_below_host host asked ≡ list_any (bytes_eq host) (parent_domains_of asked) →
-        list_any (are_same_labels (labels_of host)) (label_suffixes_of (cond dot ([] ∷ labels_of asked) (labels_with_first_byte b (labels_of asked)))) ≡ list_any (bytes_eq host) (cond dot (asked ∷ parent_domains_of asked) (parent_domains_of asked))
+        list_any (labels_are_byte_equal (labels_of host)) (label_suffixes_of (cond dot ([] ∷ labels_of asked) (labels_with_byte_in_front b (labels_of asked)))) ≡ list_any (bytes_eq host) (cond dot (asked ∷ parent_domains_of asked) (parent_domains_of asked))
     by_dot true rest = ap (λ t. t || is_below_host host asked) (same_text host asked) ∙ ap (λ t. bytes_eq host asked || t) rest
-    by_dot false rest = ap (list_any (are_same_labels (labels_of host))) (ends_with_byte b (labels_of asked) (filled asked)) ∙ rest
+    by_dot false rest = ap (list_any (labels_are_byte_equal (labels_of host))) (ends_with_byte b (labels_of asked) (filled asked)) ∙ rest
 
 -- ---- byte by byte
 

@@ -12,15 +12,15 @@ use Rattle.hx_fields.specs.Line.{Field}
 use Rattle.hx_fields.specs.FieldLines.{is_named, values_of}
 use Rattle.hx_target.specs.declared.targets.Target.{Target}
 use Rattle.hx_allow.specs.TableLines.{Line, Table}
-use Rattle.hx_allow.specs.Matching.{matches_line, route_over, verdict_of_line, verdict_from, verdict_of, line_of_number, line_refuses_loops, verdict_after_loop_check, session_cookies_of, verdict_after_cookie_check, verdict_after_purge, verdict_of_request}
+use Rattle.hx_allow.specs.Matching.{matches_line, route_over_line, verdict_of_line, verdict_from, verdict_of, line_of_number, line_refuses_loops, verdict_after_loop_check, session_cookies_of, verdict_routed_by_session_cookies, verdict_after_purge, verdict_of_request}
 use Rattle.hx_allow.specs.Rows.{has_keys_of}
-use Rattle.hx_allow.specs.Tables.{table_version_of, judge_table}
+use Rattle.hx_allow.specs.Tables.{table_version_of, config_or_fault_of_table}
 use Rattle.hx_allow.specs.Versions.{LineIsAsInVersionThree}
 use Rattle.hx_allow.specs.Via.{times_in_via, times_in_via_line, via_names_proxy_twice}
 use Rattle.hx_allow.specs.declared.verdicts.Verdict.{Verdict}
 use Rattle.hx_allow.specs.declared.verdicts.Verdict.TheVariants.{Allowed, DeniedBy, NoLine, Looped, Purged}
 use Rattle.hx_allow.specs.declared.values.TableVersion.TheVariants.{Four}
-use Rattle.hx_allow.specs.declared.verdicts.RequestRoute.{RequestRoute}
+use Rattle.hx_allow.specs.declared.verdicts.RouteOverLine.{RouteOverLine}
 use Rattle.hx_allow.proofs.CookieLines.{none_past}
 use Rattle.hx_allow.proofs.Purging.{looped_within, none_purged, none_keyed}
 use Rattle.hx_allow.proofs.Versions.{each_is_of_three}
@@ -34,7 +34,7 @@ never_looped : (n k : ℕ) (lines : List Line) (method : List ℕ) (target : Tar
 never_looped n k [] method target e = cc
 never_looped n k (line ∷ lines) method target e = by_tests (matches_line line method target) (is_some line.origin) (never_looped n (k + 1) lines method target) e
   where
-    by_tests : (matches allows : Bool) → (verdict_from (k + 1) lines method target ≡ Looped n → ⊥) → cond matches (cond allows (Allowed (route_over k)) (DeniedBy k)) (verdict_from (k + 1) lines method target) ≡ Looped n → ⊥
+    by_tests : (matches allows : Bool) → (verdict_from (k + 1) lines method target ≡ Looped n → ⊥) → cond matches (cond allows (Allowed (route_over_line k)) (DeniedBy k)) (verdict_from (k + 1) lines method target) ≡ Looped n → ⊥
     by_tests true true later e = cc
     by_tests true false later e = cc
     by_tests false allows later e = later e
@@ -46,48 +46,48 @@ module _ (table : Table) (method : List ℕ) (target : Target) (fields : List Fi
   abbrev loops : Bool
   loops = via_names_proxy_twice table.name fields
 
-  pub loop_is_refused : (route : RequestRoute) → told ≡ Allowed route → line_refuses_loops table.lines route.number ≡ true → 2 ≤ times_in_via table.name fields → verdict_of_request table method target fields ≡ Looped route.number
+  pub loop_is_refused : (route : RouteOverLine) → told ≡ Allowed route → line_refuses_loops table.lines route.number ≡ true → 2 ≤ times_in_via table.name fields → verdict_of_request table method target fields ≡ Looped route.number
   unfolding verdict_of_request
   loop_is_refused route is refuses twice =
       let looped : loops ≡ true = le-leb 2 (times_in_via table.name fields) twice in
-      ap (λ v. verdict_after_purge table.lines fields (verdict_after_cookie_check table.lines fields (verdict_after_loop_check table.lines loops v))) is ∙ rw refuses (rw looped refl)
+      ap (λ v. verdict_after_purge table.lines fields (verdict_routed_by_session_cookies table.lines fields (verdict_after_loop_check table.lines loops v))) is ∙ rw refuses (rw looped refl)
 
   pub looped_is_a_loop : (n : ℕ) → verdict_of_request table method target fields ≡ Looped n
-      → (route : RequestRoute) × (told ≡ Allowed route) × (route.number ≡ n) × (line_refuses_loops table.lines n ≡ true) × (2 ≤ times_in_via table.name fields)
+      → (route : RouteOverLine) × (told ≡ Allowed route) × (route.number ≡ n) × (line_refuses_loops table.lines n ≡ true) × (2 ≤ times_in_via table.name fields)
   unfolding verdict_of_request verdict_of
-  looped_is_a_loop n e = by_verdict told refl (looped_within table.lines fields (verdict_after_cookie_check table.lines fields (verdict_after_loop_check table.lines loops told)) n e)
+  looped_is_a_loop n e = by_verdict told refl (looped_within table.lines fields (verdict_routed_by_session_cookies table.lines fields (verdict_after_loop_check table.lines loops told)) n e)
     where
       Parts : Type 0
-      Parts = (route : RequestRoute) × (told ≡ Allowed route) × (route.number ≡ n) × (line_refuses_loops table.lines n ≡ true) × (2 ≤ times_in_via table.name fields)
+      Parts = (route : RouteOverLine) × (told ≡ Allowed route) × (route.number ≡ n) × (line_refuses_loops table.lines n ≡ true) × (2 ≤ times_in_via table.name fields)
 
-      by_tests : (k : RequestRoute) → told ≡ Allowed k → (refuses : Bool) → line_refuses_loops table.lines k.number ≡ refuses → (l : Bool) → loops ≡ l → verdict_after_cookie_check table.lines fields (cond (refuses && l) (Looped k.number) (Allowed k)) ≡ Looped n → Parts
+      by_tests : (k : RouteOverLine) → told ≡ Allowed k → (refuses : Bool) → line_refuses_loops table.lines k.number ≡ refuses → (l : Bool) → loops ≡ l → verdict_routed_by_session_cookies table.lines fields (cond (refuses && l) (Looped k.number) (Allowed k)) ≡ Looped n → Parts
       by_tests k is true r true l e = let same : k.number ≡ n = cc in (k, is, same, subst (λ j. line_refuses_loops table.lines j ≡ true) same r, leb-true 2 (times_in_via table.name fields) l)
       by_tests k is true r false l e = cc
       by_tests k is false r l also e = cc
 
-      by_verdict : (v : Verdict) → told ≡ v → verdict_after_cookie_check table.lines fields (verdict_after_loop_check table.lines loops v) ≡ Looped n → Parts
+      by_verdict : (v : Verdict) → told ≡ v → verdict_routed_by_session_cookies table.lines fields (verdict_after_loop_check table.lines loops v) ≡ Looped n → Parts
       by_verdict (Allowed k) is e = by_tests k is (line_refuses_loops table.lines k.number) refl loops refl e
       by_verdict (DeniedBy k) is e = cc
       by_verdict NoLine is e = cc
       by_verdict (Looped k) is e = absurd (never_looped k 1 table.lines method target is)
       by_verdict (Purged k) is e = cc
 
-  others : (v : Verdict) → ((route : RequestRoute) → v ≡ Allowed route → (line_refuses_loops table.lines route.number && loops) ≡ false) → verdict_after_loop_check table.lines loops v ≡ v
+  others : (v : Verdict) → ((route : RouteOverLine) → v ≡ Allowed route → (line_refuses_loops table.lines route.number && loops) ≡ false) → verdict_after_loop_check table.lines loops v ≡ v
   others (Allowed route) goes = rw (goes route refl) refl
   others (DeniedBy n) goes = refl
   others NoLine goes = refl
   others (Looped n) goes = refl
   others (Purged n) goes = refl
 
-  pub seldom_as_before : times_in_via table.name fields ≤ 1 → verdict_of_request table method target fields ≡ verdict_after_purge table.lines fields (verdict_after_cookie_check table.lines fields told)
+  pub seldom_as_before : times_in_via table.name fields ≤ 1 → verdict_of_request table method target fields ≡ verdict_after_purge table.lines fields (verdict_routed_by_session_cookies table.lines fields told)
   unfolding verdict_of_request
   seldom_as_before seldom =
       let once : loops ≡ false = lt-leb 2 (times_in_via table.name fields) (omega arith) in
-      ap (λ v. verdict_after_purge table.lines fields (verdict_after_cookie_check table.lines fields v)) (others told (λ route is. rw once (and_none (line_refuses_loops table.lines route.number))))
+      ap (λ v. verdict_after_purge table.lines fields (verdict_routed_by_session_cookies table.lines fields v)) (others told (λ route is. rw once (and_none (line_refuses_loops table.lines route.number))))
 
-  pub forwarded_as_before : ((route : RequestRoute) → told ≡ Allowed route → line_refuses_loops table.lines route.number ≡ false) → verdict_of_request table method target fields ≡ verdict_after_purge table.lines fields (verdict_after_cookie_check table.lines fields told)
+  pub forwarded_as_before : ((route : RouteOverLine) → told ≡ Allowed route → line_refuses_loops table.lines route.number ≡ false) → verdict_of_request table method target fields ≡ verdict_after_purge table.lines fields (verdict_routed_by_session_cookies table.lines fields told)
   unfolding verdict_of_request
-  forwarded_as_before goes = ap (λ v. verdict_after_purge table.lines fields (verdict_after_cookie_check table.lines fields v)) (others told (λ route is. rw (goes route is) refl))
+  forwarded_as_before goes = ap (λ v. verdict_after_purge table.lines fields (verdict_routed_by_session_cookies table.lines fields v)) (others told (λ route is. rw (goes route is) refl))
 
 -- where each line lets loops go on, the one of any number does
 none_refuses : (lines : List Line) → All (λ (line : Line). line.refuses_loops ≡ false) lines → (n : ℕ) → line_refuses_loops lines n ≡ false
@@ -123,7 +123,7 @@ none_named lines all n = by_number (n == 0)
     by_number true = refl
     by_number false = by_place
 
-pub earlier_as_before : (t : Members) (table : Table) (method : List ℕ) (target : Target) (fields : List Field) → has_keys_of (table_version_of t) Four ≡ false → judge_table t ≡ Ok table →
+pub earlier_as_before : (t : Members) (table : Table) (method : List ℕ) (target : Target) (fields : List Field) → has_keys_of (table_version_of t) Four ≡ false → config_or_fault_of_table t ≡ Ok table →
     verdict_of_request table method target fields ≡ verdict_of table.lines method target
 earlier_as_before t table method target fields before e =
     let each : All LineIsAsInVersionThree table.lines = each_is_of_three t table before e in

@@ -11,16 +11,16 @@ use Rattle.http_uri.specs.ByteClasses.{left_bracket}
 use Rattle.toml.specs.Data.{Data, string, integer, float, boolean, datetime, array, table, Items, Members, get_member, as_str, as_array}
 use Rattle.hx_target.specs.Hosts.{is_host, number_of_few_digits}
 use Rattle.hx_target.specs.Paths.{table_path_of}
-use Rattle.hx_allow.specs.Addresses.{address_of, is_address}
-use Rattle.hx_allow.specs.LineHosts.{begins_with_star_dot, is_host_wildcard, line_host_of}
-use Rattle.hx_allow.specs.LineWords.{is_one_of_two, key_has_one_of_two_texts, key_has_text, line_has_no_origin, line_caches, line_purges, key_has_third_text}
-use Rattle.hx_allow.specs.LineTables.{is_line_origin, is_host_in_lower_case, is_host_wildcard_text, is_line_host, is_line_path, is_text_of, are_texts_of_kind, is_text_or_list_of_kind, value_is_of_kind, value_is_good_for_key_row, line_key_has_good_value, first_bad_key, line_fault, line_of_members, first_fault_or_later, spelling_fault}
+use Rattle.hx_allow.specs.Addresses.{address_of, is_ipv4_and_port}
+use Rattle.hx_allow.specs.LineHosts.{begins_with_star_dot, is_subdomain_wildcard, line_host_of}
+use Rattle.hx_allow.specs.LineWords.{is_one_of_two, key_has_one_of_two_texts, text_of_key_equals, line_has_no_origin, line_caches, line_purges, key_has_third_text}
+use Rattle.hx_allow.specs.LineTables.{is_line_origin, is_host_in_lower_case, is_subdomain_wildcard_text, is_line_host, is_line_path, is_text_of_value_kind, are_texts_of_kind, is_text_or_list_of_kind, value_is_of_kind, value_is_good_for_key_row, line_key_has_good_value, first_bad_key, line_fault, line_of_members, first_fault_or_later, lowercase_or_star_fault}
 use Rattle.hx_allow.specs.Rows.{ValueKind, a_number, some_seconds, a_store_bound, a_version, one_of, one_of_in_four, one_of_three, some_names, a_name, some_lines, a_purge_key, a_host, some_methods, a_path, an_origin, KeyDefinition, row_of_line_key, word_row, fault_of_line_key, has_keys_of}
 use Rattle.hx_allow.specs.TableLines.{Line as PlainLine, Table}
-use Rattle.hx_allow.specs.Tables.{table_version_of, judge_table}
+use Rattle.hx_allow.specs.Tables.{table_version_of, config_or_fault_of_table}
 use Rattle.hx_allow.specs.Values.{first_unknown, is_some_and, text_of_key, items_of_key, texts_of_text_or_list}
 use Rattle.hx_allow.specs.Versions.{LineReadsAsInVersionThree, LineHasOneHostAndPath}
-use Rattle.hx_allow.specs.declared.config_faults.ConfigFault.TheVariants.{UnknownKey}
+use Rattle.hx_allow.specs.declared.config_faults.TableFault.TheVariants.{UnknownKey}
 use Rattle.hx_allow.specs.declared.line_hosts.LineHost.TheVariants.{Every, One as OneHost, Below}
 use Rattle.hx_allow.specs.declared.config_faults.LineOption.{LineOption}
 use Rattle.hx_allow.specs.declared.config_faults.LineOption.TheVariants.{SetCookie}
@@ -59,15 +59,15 @@ is_no_name key = not (is_of_names (row_of_line_key key).kind)
 -- before the fourth version a host is alike in each, and no list is one
 host_before : (version : TableVersion) (text : List ℕ) → has_keys_of version Four ≡ false → is_line_host version text ≡ is_line_host One text
 unfolding is_line_host
-host_before version text before = ap (λ four. bytes_eq text (codes "*") || is_host_in_lower_case text || (four && is_host_wildcard_text text)) before
+host_before version text before = ap (λ four. bytes_eq text (codes "*") || is_host_in_lower_case text || (four && is_subdomain_wildcard_text text)) before
 
 origin_before : (version : TableVersion) (text : List ℕ) → has_keys_of version Four ≡ false → is_line_origin version text ≡ is_line_origin One text
-origin_before version text before = ap (λ four. bytes_eq text (codes "deny") || is_address text || (four && bytes_eq text (codes "purge"))) before
+origin_before version text before = ap (λ four. bytes_eq text (codes "deny") || is_ipv4_and_port text || (four && bytes_eq text (codes "purge"))) before
 
-texts_before : (version : TableVersion) (kind : ValueKind) (key : List ℕ) (ms : Members) → has_keys_of version Four ≡ false → is_text_or_list_of_kind version kind key ms ≡ is_some_and (is_text_of version kind) (text_of_key key ms)
+texts_before : (version : TableVersion) (kind : ValueKind) (key : List ℕ) (ms : Members) → has_keys_of version Four ≡ false → is_text_or_list_of_kind version kind key ms ≡ is_some_and (is_text_of_value_kind version kind) (text_of_key key ms)
 texts_before version kind key ms before =
-    ap (λ four. is_some_and (is_text_of version kind) (text_of_key key ms) || (four && is_some_and (are_texts_of_kind version kind) (items_of_key key ms))) before
-    ∙ or_false (is_some_and (is_text_of version kind) (text_of_key key ms))
+    ap (λ four. is_some_and (is_text_of_value_kind version kind) (text_of_key key ms) || (four && is_some_and (are_texts_of_kind version kind) (items_of_key key ms))) before
+    ∙ or_false (is_some_and (is_text_of_value_kind version kind) (text_of_key key ms))
 
 some_alike : (p q : List ℕ → Bool) (o : Option (List ℕ)) → ((text : List ℕ) → p text ≡ q text) → is_some_and p o ≡ is_some_and q o
 some_alike p q None same = refl
@@ -80,7 +80,7 @@ kind_before version (a_store_bound low high) key ms before = refl
 kind_before version a_version key ms before = refl
 kind_before version (one_of first second) key ms before = refl
 kind_before version (one_of_in_four first second third) key ms before =
-    ap (λ four. key_has_one_of_two_texts key first second ms || (four && key_has_text key third ms)) before
+    ap (λ four. key_has_one_of_two_texts key first second ms || (four && text_of_key_equals key third ms)) before
 kind_before version (one_of_three first second third) key ms before = refl
 kind_before version (some_names most) key ms before = refl
 kind_before version a_name key ms before = refl
@@ -122,7 +122,7 @@ at_alike version other PurgingLine row ms purges same =
     ∙ ap (λ t. cond (line_purges other ms) t (is_none (get_member row.key ms))) same
 
 none_purges_before : (version : TableVersion) (ms : Members) → has_keys_of version Four ≡ false → line_purges version ms ≡ false
-none_purges_before version ms before = ap (λ four. four && key_has_text (codes "origin") (codes "purge") ms) before
+none_purges_before version ms before = ap (λ four. four && text_of_key_equals (codes "origin") (codes "purge") ms) before
 
 pub bad_before : (version : TableVersion) (ms : Members) → has_keys_of version Four ≡ false → first_bad_key version ms ≡ first_bad_key One ms
 bad_before version ms before = same_bad_key version One ms (λ key. at_alike version One (row_of_line_key key).place (row_of_line_key key) ms (none_purges_before version ms before) (kind_before version (row_of_line_key key).kind (row_of_line_key key).key ms before))
@@ -135,18 +135,18 @@ host_in_four : (o : Option (List ℕ)) → is_some_and begins_with_star_dot o �
 host_in_four None isnt = refl
 host_in_four (Some text) isnt = not_below text isnt
 
-texts_in_four : (kind : ValueKind) (key : List ℕ) (ms : Members) → items_of_key key ms ≡ None → is_text_or_list_of_kind Four kind key ms ≡ is_some_and (is_text_of Four kind) (text_of_key key ms)
+texts_in_four : (kind : ValueKind) (key : List ℕ) (ms : Members) → items_of_key key ms ≡ None → is_text_or_list_of_kind Four kind key ms ≡ is_some_and (is_text_of_value_kind Four kind) (text_of_key key ms)
 texts_in_four kind key ms none =
-    ap (λ (o : Option Items). is_some_and (is_text_of Four kind) (text_of_key key ms) || (true && is_some_and (are_texts_of_kind Four kind) o)) none
-    ∙ or_false (is_some_and (is_text_of Four kind) (text_of_key key ms))
+    ap (λ (o : Option Items). is_some_and (is_text_of_value_kind Four kind) (text_of_key key ms) || (true && is_some_and (are_texts_of_kind Four kind) o)) none
+    ∙ or_false (is_some_and (is_text_of_value_kind Four kind) (text_of_key key ms))
 
-no_third : (ms : Members) → key_has_text (codes "set-cookie") (codes "removed") ms ≡ false → (word : LineOption) → key_has_third_text (word_row word).kind (word_row word).key ms ≡ false
+no_third : (ms : Members) → text_of_key_equals (codes "set-cookie") (codes "removed") ms ≡ false → (word : LineOption) → key_has_third_text (word_row word).kind (word_row word).key ms ≡ false
 no_third ms isnt SetCookie = isnt
 no_third ms isnt _ = refl
 
 origin_in_four : (o : Option (List ℕ)) → is_some_and (λ text. bytes_eq text (codes "purge")) o ≡ false → is_some_and (is_line_origin Four) o ≡ is_some_and (is_line_origin Three) o
 origin_in_four None isnt = refl
-origin_in_four (Some text) isnt = ap (λ t. bytes_eq text (codes "deny") || is_address text || t) isnt
+origin_in_four (Some text) isnt = ap (λ t. bytes_eq text (codes "deny") || is_ipv4_and_port text || t) isnt
 
 good_in_four : (ms : Members) → LineReadsAsInVersionThree ms → (key : LineKey) → line_key_has_good_value Four ms key ≡ line_key_has_good_value Three ms key
 good_in_four ms names Host =
@@ -190,7 +190,7 @@ host_of_three text is = by_test (begins_with_star_dot text) refl
         let name = and_parts (is_host text) (not (list_any is_ascii_uppercase text)) host in
         star_is_no_name_byte at.0 (ap is_host (sym at.1) ∙ name.0)
 
-    either : (star host : Bool) → (star || host || (false && is_host_wildcard_text text)) ≡ true → (star ≡ true) ⊎ (host ≡ true)
+    either : (star host : Bool) → (star || host || (false && is_subdomain_wildcard_text text)) ≡ true → (star ≡ true) ⊎ (host ≡ true)
     either true host e = inl refl
     either false true e = inr refl
     either false false e = absurd cc
@@ -233,7 +233,7 @@ third_is_other text is = by_either (either (bytes_eq text (codes "stored")) (byt
     by_either (inl h) = ap (λ t. bytes_eq t (codes "removed")) ((bytes_eq-Decides text (codes "stored")).0 h)
     by_either (inr h) = ap (λ t. bytes_eq t (codes "removed")) ((bytes_eq-Decides text (codes "not-stored")).0 h)
 
-not_removed : (version : TableVersion) (ms : Members) → has_keys_of version Four ≡ false → first_bad_key version ms ≡ None → key_has_text (codes "set-cookie") (codes "removed") ms ≡ false
+not_removed : (version : TableVersion) (ms : Members) → has_keys_of version Four ≡ false → first_bad_key version ms ≡ None → text_of_key_equals (codes "set-cookie") (codes "removed") ms ≡ false
 not_removed version ms before good = by_tests (is_none value) refl (subst (λ four. (is_none value || ((one || (four && removed)) && line_caches ms)) ≡ true) before (each_good version ms good (Word SetCookie)))
   where
     value : Option Data
@@ -243,7 +243,7 @@ not_removed version ms before good = by_tests (is_none value) refl (subst (λ fo
     one = key_has_one_of_two_texts (codes "set-cookie") (codes "stored") (codes "not-stored") ms
 
     removed : Bool
-    removed = key_has_text (codes "set-cookie") (codes "removed") ms
+    removed = text_of_key_equals (codes "set-cookie") (codes "removed") ms
 
     absent : (o : Option Data) → is_none o ≡ true → is_some_and (λ text. bytes_eq text (codes "removed")) (option_and_then as_str o) ≡ false
     absent None e = refl
@@ -267,8 +267,8 @@ keys_are_good version n ms none = by_keys (first_unknown (Line version) ms) refl
     by_keys : (o : Option (List ℕ)) → first_unknown (Line version) ms ≡ o → first_bad_key version ms ≡ None
     by_keys (Some key) e = let bad : line_fault version n ms ≡ Some (UnknownKey key) = rw e refl in cc
     by_keys None e =
-        let is : line_fault version n ms ≡ first_fault_or_later (option_map (fault_of_line_key n) (first_bad_key version ms)) (spelling_fault version n ms) = rw e refl in
-        none_mapped (fault_of_line_key n) (first_bad_key version ms) (or_later_none (option_map (fault_of_line_key n) (first_bad_key version ms)) (spelling_fault version n ms) (sym is ∙ none)).0
+        let is : line_fault version n ms ≡ first_fault_or_later (option_map (fault_of_line_key n) (first_bad_key version ms)) (lowercase_or_star_fault version n ms) = rw e refl in
+        none_mapped (fault_of_line_key n) (first_bad_key version ms) (or_later_none (option_map (fault_of_line_key n) (first_bad_key version ms)) (lowercase_or_star_fault version n ms) (sym is ∙ none)).0
 
 host_is_text : (version : TableVersion) (ms : Members) → has_keys_of version Four ≡ false → first_bad_key version ms ≡ None → is_some_and (is_line_host Three) (text_of_key (codes "host") ms) ≡ true
 host_is_text version ms before good =
@@ -306,9 +306,9 @@ names_as_before version ms before good =
     )
 
 read_of_one : (host path : List ℕ) (line : PlainLine) → line.hosts ≡ line_host_of host ∷ [] → line.paths ≡ table_path_of path ∷ [] → begins_with_star_dot host ≡ false → LineHasOneHostAndPath line
-read_of_one host path line hosts paths isnt = (ap length hosts, ap length paths, ap (list_any is_host_wildcard) hosts ∙ by_tests (bytes_eq host (codes "*")) (begins_with_star_dot host) isnt)
+read_of_one host path line hosts paths isnt = (ap length hosts, ap length paths, ap (list_any is_subdomain_wildcard) hosts ∙ by_tests (bytes_eq host (codes "*")) (begins_with_star_dot host) isnt)
   where
-    by_tests : (star below : Bool) → below ≡ false → list_any is_host_wildcard (cond star Every (cond below (Below (drop 2 host)) (OneHost host)) ∷ []) ≡ false
+    by_tests : (star below : Bool) → below ≡ false → list_any is_subdomain_wildcard (cond star Every (cond below (Below (drop 2 host)) (OneHost host)) ∷ []) ≡ false
     by_tests true below isnt = refl
     by_tests false true isnt = absurd cc
     by_tests false false isnt = refl
@@ -324,5 +324,5 @@ has_one_host_and_path version n ms before none =
     (ap (λ (o : Option (List ℕ)). map table_path_of (texts_of_text_or_list o (items_of_key (codes "path") ms))) path.1.0)
     (host_of_three host.0 host.1.1)
 
-pub each_has_one : (t : Members) (table : Table) → has_keys_of (table_version_of t) Four ≡ false → judge_table t ≡ Ok table → All LineHasOneHostAndPath table.lines
+pub each_has_one : (t : Members) (table : Table) → has_keys_of (table_version_of t) Four ≡ false → config_or_fault_of_table t ≡ Ok table → All LineHasOneHostAndPath table.lines
 each_has_one t read before e = each_line_read LineHasOneHostAndPath t read (λ n ms none. has_one_host_and_path (table_version_of t) n ms before none) (sym e)

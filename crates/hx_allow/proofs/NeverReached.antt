@@ -8,8 +8,8 @@ use Rattle.std.proofs.lemmas.Slice.Eq.{bytes_eq-Decides}
 use Rattle.hx_target.specs.declared.targets.Target.{Target}
 use Rattle.hx_allow.specs.TableLines.{Line}
 use Rattle.hx_allow.specs.LineHosts.{is_below_host, line_host_matches, any_host_matches}
-use Rattle.hx_allow.specs.Matching.{is_star_or_same, is_below_path, is_never_allowed, deciding_line_number, matches_line, matches_method, matches_path, any_path_matches, line_of_number, verdict_of}
-use Rattle.hx_allow.specs.NeverReached.{first_covering_line, line_host_covers_line_host, hosts_cover_hosts, line_covers_line, methods_cover_methods, path_covers_path, paths_cover_paths}
+use Rattle.hx_allow.specs.Matching.{is_star_or_same, is_below_path, method_is_never_allowed, deciding_line_number, matches_line, matches_method, matches_path, any_path_matches, line_of_number, verdict_of}
+use Rattle.hx_allow.specs.NeverReached.{first_line_covering_line, line_host_covers_line_host, hosts_cover_hosts, line_covers_line, methods_cover_methods, path_covers_path, paths_cover_paths}
 use Rattle.hx_allow.specs.declared.line_hosts.LineHost.{LineHost}
 use Rattle.hx_allow.specs.declared.line_hosts.LineHost.TheVariants.{Every, One, Below}
 use Rattle.hx_allow.proofs.LineHosts.{below_below}
@@ -101,7 +101,7 @@ each_taken methods (b ∷ later) method takes any =
 
 method_taken : (methods later : List (List ℕ)) (method : List ℕ) → methods_cover_methods methods later ≡ true → matches_method later method ≡ true → matches_method methods method ≡ true
 method_taken methods later method takes matches =
-    let parts = and_parts (not (is_never_allowed method)) (list_any (is_star_or_same method) later) matches in
+    let parts = and_parts (not (method_is_never_allowed method)) (list_any (is_star_or_same method) later) matches in
     rw parts.0 (each_taken methods later method takes parts.1)
 
 -- ---- paths
@@ -262,7 +262,7 @@ numbered_next lines d =
 abbrev taking : List Line → ℕ → Option Line → Option ℕ
 taking lines m o = option_and_then (λ later. position_from (λ first. line_covers_line first later) 1 (take m lines)) o
 
-pub never_decides : (lines : List Line) (method : List ℕ) (target : Target) (n k : ℕ) → first_covering_line lines n ≡ Some k → deciding_line_number (verdict_of lines method target) ≡ Some n → ⊥
+pub never_decides : (lines : List Line) (method : List ℕ) (target : Target) (n k : ℕ) → first_line_covering_line lines n ≡ Some k → deciding_line_number (verdict_of lines method target) ≡ Some n → ⊥
 never_decides lines method target zero k taken decided = absurd cc
 never_decides lines method target (suc d) k taken decided = by_line (slice_get lines d) refl here
   where

@@ -9,7 +9,7 @@ use Rattle.hx_allow.specs.TableLines.{Line}
 use Rattle.hx_allow.specs.LineHosts.{line_host_matches, any_host_matches}
 use Rattle.hx_allow.specs.Matching.{matches_method, matches_path, any_path_matches, matches_line}
 use Rattle.hx_allow.specs.Deciding.{deciding_line}
-use Rattle.hx_allow.specs.OneByOne.{line_with_host_and_path, lines_of_hosts, line_split_by_host_and_path, lines_split_by_host_and_path, origin_and_policy_of_line}
+use Rattle.hx_allow.specs.OneByOne.{line_with_host_and_path, line_for_each_of_hosts, line_for_each_host_and_path, lines_split_by_host_and_path, origin_and_policy_of_line}
 use Rattle.hx_allow.specs.declared.line_hosts.LineHost.{LineHost}
 use Rattle.hx_allow.proofs.Deciding.{first_decides}
 
@@ -44,11 +44,11 @@ module _ (method : List ℕ) (target : Target) where
       by_test true b c = refl
       by_test false b c = refl
 
-  hosts_match : (line : Line) (hosts : List LineHost) → list_any decides (lines_of_hosts line hosts) ≡ (any_host_matches hosts target.key.host && matches_method line.methods method && any_path_matches line.paths target.table_path)
+  hosts_match : (line : Line) (hosts : List LineHost) → list_any decides (line_for_each_of_hosts line hosts) ≡ (any_host_matches hosts target.key.host && matches_method line.methods method && any_path_matches line.paths target.table_path)
   hosts_match line [] = refl
   hosts_match line (host ∷ hosts) =
-      list_any-append decides (map (line_with_host_and_path line host) line.paths) (lines_of_hosts line hosts)
-      ∙ ap (λ t. t || list_any decides (lines_of_hosts line hosts)) (paths_match line host line.paths)
+      list_any-append decides (map (line_with_host_and_path line host) line.paths) (line_for_each_of_hosts line hosts)
+      ∙ ap (λ t. t || list_any decides (line_for_each_of_hosts line hosts)) (paths_match line host line.paths)
       ∙ ap (λ t. (line_host_matches host target.key.host && matches_method line.methods method && any_path_matches line.paths target.table_path) || t) (hosts_match line hosts)
       ∙ by_test (line_host_matches host target.key.host) (any_host_matches hosts target.key.host) (matches_method line.methods method) (any_path_matches line.paths target.table_path)
     where
@@ -61,7 +61,7 @@ module _ (method : List ℕ) (target : Target) where
       by_test true false false d = refl
       by_test false b c d = refl
 
-  line_matches : (line : Line) → decides line ≡ list_any decides (line_split_by_host_and_path line)
+  line_matches : (line : Line) → decides line ≡ list_any decides (line_for_each_host_and_path line)
   unfolding matches_line
   line_matches line = sym (hosts_match line line.hosts)
 
@@ -90,30 +90,30 @@ module _ (method : List ℕ) (target : Target) where
       by_test true false e rest = absurd cc
       by_test false b e rest = rest b e
 
-  all_found : (lines : List Line) → find decides (lines_split_by_host_and_path lines) ≡ option_and_then (λ line. find decides (line_split_by_host_and_path line)) (find decides lines)
+  all_found : (lines : List Line) → find decides (lines_split_by_host_and_path lines) ≡ option_and_then (λ line. find decides (line_for_each_host_and_path line)) (find decides lines)
   all_found [] = refl
-  all_found (line ∷ lines) = find_append (line_split_by_host_and_path line) (lines_split_by_host_and_path lines) ∙ by_test (decides line) (line_matches line) (all_found lines)
+  all_found (line ∷ lines) = find_append (line_for_each_host_and_path line) (lines_split_by_host_and_path lines) ∙ by_test (decides line) (line_matches line) (all_found lines)
     where
-      by_test : (b : Bool) → b ≡ list_any decides (line_split_by_host_and_path line) → find decides (lines_split_by_host_and_path lines) ≡ option_and_then (λ line. find decides (line_split_by_host_and_path line)) (find decides lines) →
-          or_first (find decides (line_split_by_host_and_path line)) (find decides (lines_split_by_host_and_path lines)) ≡ option_and_then (λ line. find decides (line_split_by_host_and_path line)) (cond b (Some line) (find decides lines))
+      by_test : (b : Bool) → b ≡ list_any decides (line_for_each_host_and_path line) → find decides (lines_split_by_host_and_path lines) ≡ option_and_then (λ line. find decides (line_for_each_host_and_path line)) (find decides lines) →
+          or_first (find decides (line_for_each_host_and_path line)) (find decides (lines_split_by_host_and_path lines)) ≡ option_and_then (λ line. find decides (line_for_each_host_and_path line)) (cond b (Some line) (find decides lines))
       by_test true e rest =
-          let at = found_where_any (line_split_by_host_and_path line) true (sym e) in
+          let at = found_where_any (line_for_each_host_and_path line) true (sym e) in
           ap (λ (o : Option Line). or_first o (find decides (lines_split_by_host_and_path lines))) at.1 ∙ sym at.1
-      by_test false e rest = ap (λ (o : Option Line). or_first o (find decides (lines_split_by_host_and_path lines))) (found_where_any (line_split_by_host_and_path line) false (sym e)) ∙ rest
+      by_test false e rest = ap (λ (o : Option Line). or_first o (find decides (lines_split_by_host_and_path lines))) (found_where_any (line_for_each_host_and_path line) false (sym e)) ∙ rest
 
-pub matches_one_by_one : (line : Line) (method : List ℕ) (target : Target) → matches_line line method target ≡ list_any (λ one. matches_line one method target) (line_split_by_host_and_path line)
+pub matches_one_by_one : (line : Line) (method : List ℕ) (target : Target) → matches_line line method target ≡ list_any (λ one. matches_line one method target) (line_for_each_host_and_path line)
 matches_one_by_one line method target = line_matches method target line
 
-pub decides_one_by_one : (lines : List Line) (method : List ℕ) (target : Target) → deciding_line (lines_split_by_host_and_path lines) method target ≡ option_and_then (λ line. deciding_line (line_split_by_host_and_path line) method target) (deciding_line lines method target)
+pub decides_one_by_one : (lines : List Line) (method : List ℕ) (target : Target) → deciding_line (lines_split_by_host_and_path lines) method target ≡ option_and_then (λ line. deciding_line (line_for_each_host_and_path line) method target) (deciding_line lines method target)
 decides_one_by_one lines method target =
     first_decides (lines_split_by_host_and_path lines) method target
     ∙ all_found method target lines
-    ∙ ap (option_and_then (λ line. find (λ one. matches_line one method target) (line_split_by_host_and_path line))) (sym (first_decides lines method target))
+    ∙ ap (option_and_then (λ line. find (λ one. matches_line one method target) (line_for_each_host_and_path line))) (sym (first_decides lines method target))
     ∙ each_alike (deciding_line lines method target)
   where
-    each_alike : (o : Option Line) → option_and_then (λ line. find (λ one. matches_line one method target) (line_split_by_host_and_path line)) o ≡ option_and_then (λ line. deciding_line (line_split_by_host_and_path line) method target) o
+    each_alike : (o : Option Line) → option_and_then (λ line. find (λ one. matches_line one method target) (line_for_each_host_and_path line)) o ≡ option_and_then (λ line. deciding_line (line_for_each_host_and_path line) method target) o
     each_alike None = refl
-    each_alike (Some line) = sym (first_decides (line_split_by_host_and_path line) method target)
+    each_alike (Some line) = sym (first_decides (line_for_each_host_and_path line) method target)
 
 -- ---- what it says
 
@@ -129,9 +129,9 @@ module _ (line : Line) (P : Line → Bool) where
       by_test true says = inr refl
       by_test false says = says
 
-  said_of_hosts : (hosts : List LineHost) → Says (find P (lines_of_hosts line hosts))
+  said_of_hosts : (hosts : List LineHost) → Says (find P (line_for_each_of_hosts line hosts))
   said_of_hosts [] = inl refl
-  said_of_hosts (host ∷ hosts) = said_of_paths host line.paths (lines_of_hosts line hosts) (said_of_hosts hosts)
+  said_of_hosts (host ∷ hosts) = said_of_paths host line.paths (line_for_each_of_hosts line hosts) (said_of_hosts hosts)
 
 pub says_the_same : (lines : List Line) (method : List ℕ) (target : Target) → option_map origin_and_policy_of_line (deciding_line (lines_split_by_host_and_path lines) method target) ≡ option_map origin_and_policy_of_line (deciding_line lines method target)
 says_the_same lines method target =
@@ -147,13 +147,13 @@ says_the_same lines method target =
 
     in_all : (lines : List Line) → option_map origin_and_policy_of_line (find test (lines_split_by_host_and_path lines)) ≡ option_map origin_and_policy_of_line (find test lines)
     in_all [] = refl
-    in_all (line ∷ lines) = ap (option_map origin_and_policy_of_line) (find_append method target (line_split_by_host_and_path line) (lines_split_by_host_and_path lines)) ∙ by_test (test line) (line_matches method target line) (in_all lines)
+    in_all (line ∷ lines) = ap (option_map origin_and_policy_of_line) (find_append method target (line_for_each_host_and_path line) (lines_split_by_host_and_path lines)) ∙ by_test (test line) (line_matches method target line) (in_all lines)
       where
-        by_test : (b : Bool) → b ≡ list_any test (line_split_by_host_and_path line) → option_map origin_and_policy_of_line (find test (lines_split_by_host_and_path lines)) ≡ option_map origin_and_policy_of_line (find test lines) →
-            option_map origin_and_policy_of_line (or_first method target (find test (line_split_by_host_and_path line)) (find test (lines_split_by_host_and_path lines))) ≡ option_map origin_and_policy_of_line (cond b (Some line) (find test lines))
+        by_test : (b : Bool) → b ≡ list_any test (line_for_each_host_and_path line) → option_map origin_and_policy_of_line (find test (lines_split_by_host_and_path lines)) ≡ option_map origin_and_policy_of_line (find test lines) →
+            option_map origin_and_policy_of_line (or_first method target (find test (line_for_each_host_and_path line)) (find test (lines_split_by_host_and_path lines))) ≡ option_map origin_and_policy_of_line (cond b (Some line) (find test lines))
         by_test true e rest =
-            let at = found_where_any method target (line_split_by_host_and_path line) true (sym e) in
+            let at = found_where_any method target (line_for_each_host_and_path line) true (sym e) in
             ap (λ (o : Option Line). option_map origin_and_policy_of_line (or_first method target o (find test (lines_split_by_host_and_path lines)))) at.1
             ∙ sym (ap (option_map origin_and_policy_of_line) at.1)
-            ∙ same_said line (find test (line_split_by_host_and_path line)) (said_of_hosts line test line.hosts) at.0 at.1
-        by_test false e rest = ap (λ (o : Option Line). option_map origin_and_policy_of_line (or_first method target o (find test (lines_split_by_host_and_path lines)))) (found_where_any method target (line_split_by_host_and_path line) false (sym e)) ∙ rest
+            ∙ same_said line (find test (line_for_each_host_and_path line)) (said_of_hosts line test line.hosts) at.0 at.1
+        by_test false e rest = ap (λ (o : Option Line). option_map origin_and_policy_of_line (or_first method target o (find test (lines_split_by_host_and_path lines)))) (found_where_any method target (line_for_each_host_and_path line) false (sym e)) ∙ rest

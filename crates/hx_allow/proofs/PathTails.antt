@@ -5,9 +5,9 @@ use Rattle.std.proofs.lemmas.Bool.Decides.{nat_tests}
 use Rattle.std.proofs.lemmas.List.{get_or-take}
 use Rattle.std.proofs.lemmas.Option.{slice_get-get_or, unwrap_or-slice_get}
 use Rattle.std.proofs.lemmas.Slice.Eq.{bytes_eq-Decides}
-use Rattle.hx_allow.specs.declared.path_tails.PathTail.{PathTail}
+use Rattle.hx_allow.specs.declared.path_tails.PathLengthAndLastByte.{PathLengthAndLastByte}
 use Rattle.hx_allow.specs.Matching.{is_below_path, matches_path}
-use Rattle.hx_allow.specs.PathTails.{path_may_match_tail, path_tail_of}
+use Rattle.hx_allow.specs.PathTails.{path_may_match_tail, path_length_and_end_of}
 use Rattle.hx_allow.specs.Values.{is_some_and}
 
 same_byte : (b : ℕ) → (b == b) ≡ true
@@ -44,7 +44,7 @@ module _ (path asked : List ℕ) where
       last_stands path asked (omega arith) (λ some.
       sym (get_or-take (length path) asked (length path - 1) 0 (omega arith)) ∙ ap (λ (p : List ℕ). get_or p (length path - 1) 0) front)
 
-  tail_stands : matches_path path asked ≡ true → path_may_match_tail (path_tail_of path) asked ≡ true
+  tail_stands : matches_path path asked ≡ true → path_may_match_tail (path_length_and_end_of path) asked ≡ true
   tail_stands is = by_test (bytes_eq path (codes "/")) (bytes_eq path asked) (is_below_path path asked) refl refl is
     where
       by_test : (t u v : Bool) → bytes_eq path asked ≡ u → is_below_path path asked ≡ v → (t || u || v) ≡ true
@@ -55,9 +55,9 @@ module _ (path asked : List ℕ) where
       by_test false false false p q h = absurd cc
 
 -- so a path that hasn't it isn't matched
-pub without_tail : (tail : PathTail) (path asked : List ℕ) → tail ≡ path_tail_of path → path_may_match_tail tail asked ≡ false → false ≡ matches_path path asked
+pub without_tail : (tail : PathLengthAndLastByte) (path asked : List ℕ) → tail ≡ path_length_and_end_of path → path_may_match_tail tail asked ≡ false → false ≡ matches_path path asked
 without_tail tail path asked is none = by_test (matches_path path asked) refl
   where
     by_test : (t : Bool) → matches_path path asked ≡ t → false ≡ t
-    by_test true p = sym none ∙ ap (λ (e : PathTail). path_may_match_tail e asked) is ∙ tail_stands path asked p
+    by_test true p = sym none ∙ ap (λ (e : PathLengthAndLastByte). path_may_match_tail e asked) is ∙ tail_stands path asked p
     by_test false p = refl

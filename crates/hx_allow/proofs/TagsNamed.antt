@@ -11,34 +11,34 @@ use Rattle.std.proofs.lemmas.Slice.Eq.{bytes_eq-Decides}
 use Rattle.hx_fields.specs.Line.{Field}
 use Rattle.hx_fields.specs.FieldLines.{is_named}
 use Rattle.hx_fields.specs.Names.{members_of_value, joined_lists}
-use Rattle.hx_allow.specs.Tags.{tag_comparisons_left, tag_comparisons_left_after_lines, response_names_tag, cache_tags_of}
+use Rattle.hx_allow.specs.Tags.{comparisons_left_unless_found, comparisons_left_behind_fields, response_names_tag, cache_tags_of}
 
-behind_both : (tag : List ℕ) (left : ℕ) (xs ys : List (List ℕ)) → tag_comparisons_left tag left (xs ++ ys) ≡ option_and_then (λ still. tag_comparisons_left tag still ys) (tag_comparisons_left tag left xs)
+behind_both : (tag : List ℕ) (left : ℕ) (xs ys : List (List ℕ)) → comparisons_left_unless_found tag left (xs ++ ys) ≡ option_and_then (λ still. comparisons_left_unless_found tag still ys) (comparisons_left_unless_found tag left xs)
 behind_both tag left [] ys = refl
 behind_both tag left (x ∷ xs) ys = by_test (eqb left 0 || bytes_eq tag x) (behind_both tag (left - 1) xs ys)
   where
-    by_test : (b : Bool) → tag_comparisons_left tag (left - 1) (xs ++ ys) ≡ option_and_then (λ still. tag_comparisons_left tag still ys) (tag_comparisons_left tag (left - 1) xs)
-        → cond b None (tag_comparisons_left tag (left - 1) (xs ++ ys)) ≡ option_and_then (λ still. tag_comparisons_left tag still ys) (cond b None (tag_comparisons_left tag (left - 1) xs))
+    by_test : (b : Bool) → comparisons_left_unless_found tag (left - 1) (xs ++ ys) ≡ option_and_then (λ still. comparisons_left_unless_found tag still ys) (comparisons_left_unless_found tag (left - 1) xs)
+        → cond b None (comparisons_left_unless_found tag (left - 1) (xs ++ ys)) ≡ option_and_then (λ still. comparisons_left_unless_found tag still ys) (cond b None (comparisons_left_unless_found tag (left - 1) xs))
     by_test true later = refl
     by_test false later = later
 
-each_alike : (tag : List ℕ) (fields : List Field) → ((left : ℕ) → tag_comparisons_left_after_lines tag left fields ≡ tag_comparisons_left tag left (cache_tags_of fields)) → (o : Option ℕ) →
-    option_and_then (λ still. tag_comparisons_left_after_lines tag still fields) o ≡ option_and_then (λ still. tag_comparisons_left tag still (cache_tags_of fields)) o
+each_alike : (tag : List ℕ) (fields : List Field) → ((left : ℕ) → comparisons_left_behind_fields tag left fields ≡ comparisons_left_unless_found tag left (cache_tags_of fields)) → (o : Option ℕ) →
+    option_and_then (λ still. comparisons_left_behind_fields tag still fields) o ≡ option_and_then (λ still. comparisons_left_unless_found tag still (cache_tags_of fields)) o
 each_alike tag fields same None = refl
 each_alike tag fields same (Some left) = same left
 
 -- over the lines as over all members
-by_lines : (tag : List ℕ) (left : ℕ) (fields : List Field) → tag_comparisons_left_after_lines tag left fields ≡ tag_comparisons_left tag left (cache_tags_of fields)
+by_lines : (tag : List ℕ) (left : ℕ) (fields : List Field) → comparisons_left_behind_fields tag left fields ≡ comparisons_left_unless_found tag left (cache_tags_of fields)
 by_lines tag left [] = refl
-by_lines tag left (f ∷ fields) = by_name (is_named (codes "Cache-Tag") f) (each_alike tag fields (λ still. by_lines tag still fields) (tag_comparisons_left tag left (members_of_value f.value))) (by_lines tag left fields)
+by_lines tag left (f ∷ fields) = by_name (is_named (codes "Cache-Tag") f) (each_alike tag fields (λ still. by_lines tag still fields) (comparisons_left_unless_found tag left (members_of_value f.value))) (by_lines tag left fields)
   where
     others : List Field
     others = filter (is_named (codes "Cache-Tag")) fields
 
-    by_name : (b : Bool) → option_and_then (λ still. tag_comparisons_left_after_lines tag still fields) (tag_comparisons_left tag left (members_of_value f.value)) ≡ option_and_then (λ still. tag_comparisons_left tag still (cache_tags_of fields)) (tag_comparisons_left tag left (members_of_value f.value))
-        → tag_comparisons_left_after_lines tag left fields ≡ tag_comparisons_left tag left (cache_tags_of fields)
-        → cond b (option_and_then (λ still. tag_comparisons_left_after_lines tag still fields) (tag_comparisons_left tag left (members_of_value f.value))) (tag_comparisons_left_after_lines tag left fields)
-        ≡ tag_comparisons_left tag left (joined_lists (map members_of_value (map (λ (g : Field). g.value) (cond b (f ∷ others) others))))
+    by_name : (b : Bool) → option_and_then (λ still. comparisons_left_behind_fields tag still fields) (comparisons_left_unless_found tag left (members_of_value f.value)) ≡ option_and_then (λ still. comparisons_left_unless_found tag still (cache_tags_of fields)) (comparisons_left_unless_found tag left (members_of_value f.value))
+        → comparisons_left_behind_fields tag left fields ≡ comparisons_left_unless_found tag left (cache_tags_of fields)
+        → cond b (option_and_then (λ still. comparisons_left_behind_fields tag still fields) (comparisons_left_unless_found tag left (members_of_value f.value))) (comparisons_left_behind_fields tag left fields)
+        ≡ comparisons_left_unless_found tag left (joined_lists (map members_of_value (map (λ (g : Field). g.value) (cond b (f ∷ others) others))))
     by_name true named rest = named ∙ sym (behind_both tag left (members_of_value f.value) (cache_tags_of fields))
     by_name false named rest = rest
 
@@ -73,17 +73,17 @@ one_less n m = by_test (ltb n m) refl
     by_test false is = test_fails (suc n) (suc m) (λ less. false≢true (sym is ∙ lt-ltb n m (omega arith))) ∙ sym is
 
 -- they are too many, or one is the tag
-too_many_or_named : (tag : List ℕ) (left : ℕ) (members : List (List ℕ)) → is_none (tag_comparisons_left tag left members) ≡ (ltb left (length members) || list_any (bytes_eq tag) members)
+too_many_or_named : (tag : List ℕ) (left : ℕ) (members : List (List ℕ)) → is_none (comparisons_left_unless_found tag left members) ≡ (ltb left (length members) || list_any (bytes_eq tag) members)
 too_many_or_named tag zero [] = refl
 too_many_or_named tag (suc left) [] = ap (λ b. b || false) (sym (none_below left))
 too_many_or_named tag zero (m ∷ members) = sym (ap (λ b. b || list_any (bytes_eq tag) (m ∷ members)) (lt-ltb 0 (length (m ∷ members)) (omega arith)))
 too_many_or_named tag (suc left) (m ∷ members) =
     let less : suc left - 1 ≡ left = omega arith in
-    ap (λ b. is_none (cond (b || bytes_eq tag m) None (tag_comparisons_left tag (suc left - 1) members))) (one_is_left left)
-    ∙ (ap (λ n. is_none (cond (bytes_eq tag m) None (tag_comparisons_left tag n members))) less) ∙ by_test (bytes_eq tag m) (too_many_or_named tag left members)
+    ap (λ b. is_none (cond (b || bytes_eq tag m) None (comparisons_left_unless_found tag (suc left - 1) members))) (one_is_left left)
+    ∙ (ap (λ n. is_none (cond (bytes_eq tag m) None (comparisons_left_unless_found tag n members))) less) ∙ by_test (bytes_eq tag m) (too_many_or_named tag left members)
   where
-    by_test : (b : Bool) → is_none (tag_comparisons_left tag left members) ≡ (ltb left (length members) || list_any (bytes_eq tag) members)
-        → is_none (cond b None (tag_comparisons_left tag left members)) ≡ (ltb (suc left) (suc (length members)) || (b || list_any (bytes_eq tag) members))
+    by_test : (b : Bool) → is_none (comparisons_left_unless_found tag left members) ≡ (ltb left (length members) || list_any (bytes_eq tag) members)
+        → is_none (cond b None (comparisons_left_unless_found tag left members)) ≡ (ltb (suc left) (suc (length members)) || (b || list_any (bytes_eq tag) members))
     by_test true later = sym (or_true (ltb (suc left) (suc (length members))))
     by_test false later = later ∙ ap (λ b. b || list_any (bytes_eq tag) members) (sym (one_less left (length members)))
 
@@ -93,7 +93,7 @@ none_is None false e = cc
 none_is (Some left) true e = cc
 none_is (Some left) false e = refl
 
-pub none_left_where_named : (tag : List ℕ) (fields : List Field) → is_none (tag_comparisons_left_after_lines tag 64 fields) ≡ response_names_tag tag fields
+pub none_left_where_named : (tag : List ℕ) (fields : List Field) → is_none (comparisons_left_behind_fields tag 64 fields) ≡ response_names_tag tag fields
 none_left_where_named tag fields = ap is_none (by_lines tag 64 fields) ∙ too_many_or_named tag 64 (cache_tags_of fields)
 
 same_text : (x y : List ℕ) → bytes_eq x y ≡ true → x ≡ y

@@ -4,14 +4,14 @@ use Rattle.std.specs.Prelude.{Ok, Err, IsSome, IsUtf8}
 use Rattle.toml.specs.Data.{Members}
 use Rattle.toml.specs.Parse.{parse_document}
 use Rattle.hx_allow.specs.TableLines.{Table}
-use Rattle.hx_allow.specs.Tables.{judge_table, BytesReadAsTable}
-use Rattle.hx_allow.specs.declared.config_faults.ConfigFault.TheVariants.{NotToml}
+use Rattle.hx_allow.specs.Tables.{config_or_fault_of_table, BytesReadAsTable}
+use Rattle.hx_allow.specs.declared.config_faults.TableFault.TheVariants.{NotToml}
 
 pub taken : (bytes : List ℕ) (table : Table) → BytesReadAsTable bytes (Ok table) → (length bytes ≤ 1048576) × IsUtf8 bytes × IsSome (parse_document bytes)
 taken bytes table (inl (t, is, e)) = (is.0, is.1, subst (λ (o : Option Members). IsSome o) (sym is.2) refl)
 taken bytes table (inr (none, e)) = cc
 
-pub judged : (bytes : List ℕ) (t : Members) → length bytes ≤ 1048576 → IsUtf8 bytes → parse_document bytes ≡ Some t → BytesReadAsTable bytes (judge_table t)
+pub judged : (bytes : List ℕ) (t : Members) → length bytes ≤ 1048576 → IsUtf8 bytes → parse_document bytes ≡ Some t → BytesReadAsTable bytes (config_or_fault_of_table t)
 judged bytes t short text toml = inl (t, (short, text, toml), refl)
 
 pub too_long : (bytes : List ℕ) → 1048576 < length bytes → BytesReadAsTable bytes (Err NotToml)

@@ -14,14 +14,14 @@ use Rattle.toml.specs.Data.{Data, Items, no_items, item, Members, no_members, me
 use Rattle.hx_policy.specs.Policies.{plain, default_policy_with_hidden_tags}
 use Rattle.hx_allow.specs.TableLines.{Line as PlainLine, Table}
 use Rattle.hx_allow.specs.Keys.{key_of_line_option}
-use Rattle.hx_allow.specs.LineWords.{key_has_text, line_caches}
-use Rattle.hx_allow.specs.Rows.{KeyDefinition, row_of_line_key, word_row, top_keys, line_keys, fault_of_top_key, fault_of_line_key, has_keys_of}
-use Rattle.hx_allow.specs.LineTables.{value_is_good_for_key_row, line_key_has_good_value, first_bad_key, line_fault, line_of_members, first_fault_of_lines, first_fault_or_later, fault_of_line_if_table, line_has_lowercase_method, line_has_path_with_star, spelling_fault}
-use Rattle.hx_allow.specs.Tables.{top_key_has_good_value, store_bound_is_good, number_of_key, first_bad_top_key, line_items_of_table, table_version_of, table_fault, table_of_members, judge_table, fault_or_table_read}
+use Rattle.hx_allow.specs.LineWords.{text_of_key_equals, line_caches}
+use Rattle.hx_allow.specs.Rows.{KeyDefinition, row_of_line_key, word_row, top_keys, all_line_keys, fault_of_top_key, fault_of_line_key, has_keys_of}
+use Rattle.hx_allow.specs.LineTables.{value_is_good_for_key_row, line_key_has_good_value, first_bad_key, line_fault, line_of_members, first_fault_of_lines, first_fault_or_later, fault_of_line_if_table, line_has_lowercase_method, line_has_path_with_star, lowercase_or_star_fault}
+use Rattle.hx_allow.specs.Tables.{top_key_has_good_value, store_bound_is_good, number_of_key, first_bad_top_key, line_tables_of_toml, table_version_of, table_fault, table_of_members, config_or_fault_of_table, fault_or_table_read}
 use Rattle.hx_allow.specs.Values.{is_known_key, is_row_key_in_version, first_unknown, within, is_some_and}
-use Rattle.hx_allow.specs.Versions.{LineHasNoOptionKey, LineHasNoKeyOfVersionFour, LineHasNoLowercaseOrStar, LineReadsAsInVersionThree, LineIsAsInVersionThree}
-use Rattle.hx_allow.specs.declared.config_faults.ConfigFault.{ConfigFault}
-use Rattle.hx_allow.specs.declared.config_faults.ConfigFault.TheVariants.{UnknownKey, BadNumber, BadCache, BadWord, MethodInLowerCase, StarInPath}
+use Rattle.hx_allow.specs.Versions.{LineHasNoOptionKey, LineHasNoKeyOfVersionFour, LineHasNoLowercaseMethodOrStar, LineReadsAsInVersionThree, LineIsAsInVersionThree}
+use Rattle.hx_allow.specs.declared.config_faults.TableFault.{TableFault}
+use Rattle.hx_allow.specs.declared.config_faults.TableFault.TheVariants.{UnknownKey, BadNumber, BadCache, BadWord, MethodInLowerCase, StarInPath}
 use Rattle.hx_allow.specs.declared.config_faults.LineOption.{LineOption}
 use Rattle.hx_allow.specs.declared.config_faults.LineOption.TheVariants.{Lifetime, ErrorLifetime, LifetimeMost, StaleIfError, SetCookie, Cookies, SessionCookies, Errors, RequestDirectives, Wait, Explain, Conditions, Loops, StaleWhileRevalidate, Vary, OriginTimeout, PurgeKey, Ranges, WaitTimeout}
 use Rattle.hx_allow.specs.declared.config_faults.NumberKey.TheVariants.{Version, Capacity, MaxBody, MaxStored, MaxStore}
@@ -120,7 +120,7 @@ and_false false = refl
 
 -- where no word stands, the last two do
 known_alike : (key : List ℕ) → ((word : LineOption) → bytes_eq key (key_of_line_option word) ≡ false) → is_known_key (Line Three) key ≡ is_known_key (Line Two) key
-known_alike key other = any_alike (λ known. is_row_key_in_version Three key (row_of_line_key known)) (λ known. is_row_key_in_version Two key (row_of_line_key known)) line_keys alike
+known_alike key other = any_alike (λ known. is_row_key_in_version Three key (row_of_line_key known)) (λ known. is_row_key_in_version Two key (row_of_line_key known)) all_line_keys alike
   where
     alike : (known : LineKey) → is_row_key_in_version Three key (row_of_line_key known) ≡ is_row_key_in_version Two key (row_of_line_key known)
     alike Host = refl
@@ -143,7 +143,7 @@ without_words (member key value ms) none =
 
 -- where no word of the fourth version stands, the last two versions know the same keys
 known_in_four : (key : List ℕ) → ((word : LineOption) → (word_row word).since ≡ Four → bytes_eq key (key_of_line_option word) ≡ false) → is_known_key (Line Four) key ≡ is_known_key (Line Three) key
-known_in_four key other = any_alike (λ known. is_row_key_in_version Four key (row_of_line_key known)) (λ known. is_row_key_in_version Three key (row_of_line_key known)) line_keys alike
+known_in_four key other = any_alike (λ known. is_row_key_in_version Four key (row_of_line_key known)) (λ known. is_row_key_in_version Three key (row_of_line_key known)) all_line_keys alike
   where
     alike : (known : LineKey) → is_row_key_in_version Four key (row_of_line_key known) ≡ is_row_key_in_version Three key (row_of_line_key known)
     alike Host = refl
@@ -180,7 +180,7 @@ same_unknown_of_four (member key value ms) none =
 
 -- versions that know the same keys of a line, find the same of them good and tell the same of its spelling have the
 -- same first fault
-same_by_keys : (later earlier : TableVersion) (n : ℕ) (ms : Members) → first_unknown (Line later) ms ≡ first_unknown (Line earlier) ms → first_bad_key later ms ≡ first_bad_key earlier ms → spelling_fault later n ms ≡ spelling_fault earlier n ms → line_fault later n ms ≡ line_fault earlier n ms
+same_by_keys : (later earlier : TableVersion) (n : ℕ) (ms : Members) → first_unknown (Line later) ms ≡ first_unknown (Line earlier) ms → first_bad_key later ms ≡ first_bad_key earlier ms → lowercase_or_star_fault later n ms ≡ lowercase_or_star_fault earlier n ms → line_fault later n ms ≡ line_fault earlier n ms
 unfolding line_fault
 same_by_keys later earlier n ms keys bad spelling = by_keys (first_unknown (Line earlier) ms) refl
   where
@@ -188,7 +188,7 @@ same_by_keys later earlier n ms keys bad spelling = by_keys (first_unknown (Line
     by_keys (Some key) e = rw keys (rw e refl)
     by_keys None e =
         rw keys (rw e (
-        ap (λ (o : Option LineKey). first_fault_or_later (option_map (fault_of_line_key n) o) (spelling_fault later n ms)) bad
+        ap (λ (o : Option LineKey). first_fault_or_later (option_map (fault_of_line_key n) o) (lowercase_or_star_fault later n ms)) bad
         ∙ ap (first_fault_or_later (option_map (fault_of_line_key n) (first_bad_key earlier ms))) spelling
         ))
 
@@ -199,17 +199,17 @@ same_fault Three n ms before none no_word = same_by_keys Three One n ms (without
 same_fault Four n ms before none no_word = cc
 
 -- a line that is spelled for the fourth version has no fault of its spelling
-no_spelling_fault : (n : ℕ) (ms : Members) → LineHasNoLowercaseOrStar ms → spelling_fault Four n ms ≡ None
+no_spelling_fault : (n : ℕ) (ms : Members) → LineHasNoLowercaseMethodOrStar ms → lowercase_or_star_fault Four n ms ≡ None
 no_spelling_fault n ms spelled = rw spelled.0 (rw spelled.1 refl)
 
-pub same_fault_of_three : (n : ℕ) (ms : Members) → LineHasNoKeyOfVersionFour ms → LineHasNoLowercaseOrStar ms → LineReadsAsInVersionThree ms → line_fault Four n ms ≡ line_fault Three n ms
+pub same_fault_of_three : (n : ℕ) (ms : Members) → LineHasNoKeyOfVersionFour ms → LineHasNoLowercaseMethodOrStar ms → LineReadsAsInVersionThree ms → line_fault Four n ms ≡ line_fault Three n ms
 same_fault_of_three n ms no_word spelled names = same_by_keys Four Three n ms (same_unknown_of_four ms no_word) (bad_in_four ms names) (no_spelling_fault n ms spelled)
 
-pub same_fault_in_four : (n : ℕ) (ms : Members) → get_member (codes "cache") ms ≡ None → LineHasNoOptionKey ms → LineHasNoLowercaseOrStar ms → LineReadsAsInVersionThree ms → line_fault Four n ms ≡ line_fault One n ms
+pub same_fault_in_four : (n : ℕ) (ms : Members) → get_member (codes "cache") ms ≡ None → LineHasNoOptionKey ms → LineHasNoLowercaseMethodOrStar ms → LineReadsAsInVersionThree ms → line_fault Four n ms ≡ line_fault One n ms
 same_fault_in_four n ms none no_word spelled names = same_fault_of_three n ms (λ word since. no_word word) spelled names ∙ same_fault Three n ms refl none no_word
 
 -- what the third version reads the fourth reads, but for its spelling
-pub still_read : (n : ℕ) (ms : Members) → LineHasNoKeyOfVersionFour ms → LineHasNoLowercaseOrStar ms → line_fault Three n ms ≡ None → line_fault Four n ms ≡ None
+pub still_read : (n : ℕ) (ms : Members) → LineHasNoKeyOfVersionFour ms → LineHasNoLowercaseMethodOrStar ms → line_fault Three n ms ≡ None → line_fault Four n ms ≡ None
 still_read n ms no_word spelled none = same_fault_of_three n ms no_word spelled (names_as_before Three ms refl (keys_are_good Three n ms none)) ∙ none
 
 pub same_fault_of_two : (n : ℕ) (ms : Members) → LineHasNoOptionKey ms → line_fault Three n ms ≡ line_fault Two n ms
@@ -218,7 +218,7 @@ same_fault_of_two n ms no_word = same_by_keys Three Two n ms (without_words ms n
 -- ---- faults that a version never has
 
 -- the fault is of a key that a version adds
-abbrev is_of_added_key : ConfigFault → Bool
+abbrev is_of_added_key : TableFault → Bool
 is_of_added_key (BadCache line) = true
 is_of_added_key (BadWord line word) = true
 is_of_added_key (BadNumber MaxStore) = true
@@ -226,19 +226,19 @@ is_of_added_key (MethodInLowerCase line) = true
 is_of_added_key (StarInPath line) = true
 is_of_added_key _ = false
 
-neither_gives : (a b : Option ConfigFault) (fault : ConfigFault) → ¬ (a ≡ Some fault) → ¬ (b ≡ Some fault) → ¬ (first_fault_or_later a b ≡ Some fault)
+neither_gives : (a b : Option TableFault) (fault : TableFault) → ¬ (a ≡ Some fault) → ¬ (b ≡ Some fault) → ¬ (first_fault_or_later a b ≡ Some fault)
 neither_gives None b fault first later = later
 neither_gives (Some x) b fault first later = first
 
-module _ (fault : ConfigFault) (is_added : is_of_added_key fault ≡ true) where
-  not_it : (x : ConfigFault) → is_of_added_key x ≡ false → ¬ (x ≡ fault)
+module _ (fault : TableFault) (is_added : is_of_added_key fault ≡ true) where
+  not_it : (x : TableFault) → is_of_added_key x ≡ false → ¬ (x ≡ fault)
   not_it x other same =
       let bad : is_of_added_key fault ≡ false = subst (λ f. is_of_added_key f ≡ false) same other in
       cc
 
   module _ (version : TableVersion)
       (never : (n : ℕ) (ms : Members) (key : LineKey) → first_unknown (Line version) ms ≡ None → line_key_has_good_value version ms key ≡ false → ¬ (fault_of_line_key n key ≡ fault))
-      (never_spelled : (n : ℕ) (ms : Members) → ¬ (spelling_fault version n ms ≡ Some fault))
+      (never_spelled : (n : ℕ) (ms : Members) → ¬ (lowercase_or_star_fault version n ms ≡ Some fault))
       (never_at_top : (t : Members) (key : TopKey) → table_version_of t ≡ version → first_unknown (Top (table_version_of t)) t ≡ None → top_key_has_good_value t key ≡ false → ¬ (fault_of_top_key key ≡ fault)) where
     not_refused : (n : ℕ) (ms : Members) → ¬ (line_fault version n ms ≡ Some fault)
     unfolding line_fault
@@ -249,12 +249,12 @@ module _ (fault : ConfigFault) (is_added : is_of_added_key fault ≡ true) where
             let is : line_fault version n ms ≡ Some (UnknownKey key) = rw e refl in
             not_it (UnknownKey key) refl cc
         by_keys None e None f =
-            let is : line_fault version n ms ≡ spelling_fault version n ms = rw e (rw f refl) in
+            let is : line_fault version n ms ≡ lowercase_or_star_fault version n ms = rw e (rw f refl) in
             never_spelled n ms (sym is ∙ bad)
         by_keys None e (Some key) f =
             let is : line_fault version n ms ≡ Some (fault_of_line_key n key) = rw e (rw f refl) in
             let same : fault_of_line_key n key ≡ fault = cc in
-            never n ms key e (found_fails (line_key_has_good_value version ms) line_keys key f) same
+            never n ms key e (found_fails (line_key_has_good_value version ms) all_line_keys key f) same
 
     item_not_refused : (n : ℕ) (o : Option Members) → ¬ (fault_of_line_if_table version n o ≡ Some fault)
     item_not_refused n None bad = cc
@@ -278,27 +278,27 @@ module _ (fault : ConfigFault) (is_added : is_of_added_key fault ≡ true) where
             let found : fault_of_top_key key ≡ fault = cc in
             never_at_top t key same e (found_fails (top_key_has_good_value t) top_keys key f) found
         by_keys None e None f =
-            let is : table_fault t ≡ first_fault_of_lines version 1 (unwrap_or (line_items_of_table t) no_items) = rw e (rw f (rw same refl)) in
-            lines_not_refused 1 (unwrap_or (line_items_of_table t) no_items) (sym is ∙ bad)
+            let is : table_fault t ≡ first_fault_of_lines version 1 (unwrap_or (line_tables_of_toml t) no_items) = rw e (rw f (rw same refl)) in
+            lines_not_refused 1 (unwrap_or (line_tables_of_toml t) no_items) (sym is ∙ bad)
 
-    never_judged : (t : Members) → table_version_of t ≡ version → ¬ (judge_table t ≡ Err fault)
-    unfolding judge_table
+    never_judged : (t : Members) → table_version_of t ≡ version → ¬ (config_or_fault_of_table t ≡ Err fault)
+    unfolding config_or_fault_of_table
     never_judged t same bad = by_fault (table_fault t) refl
       where
-        by_fault : (o : Option ConfigFault) → table_fault t ≡ o → ⊥
-        by_fault None e = let is : judge_table t ≡ fault_or_table_read None t = rw e refl in cc
+        by_fault : (o : Option TableFault) → table_fault t ≡ o → ⊥
+        by_fault None e = let is : config_or_fault_of_table t ≡ fault_or_table_read None t = rw e refl in cc
         by_fault (Some other) e =
-            let is : judge_table t ≡ Err other = rw e refl in
+            let is : config_or_fault_of_table t ≡ Err other = rw e refl in
             let both : other ≡ fault = cc in
             table_not_refused t same (e ∙ ap Some both)
 
 -- a spelling's fault is one of two
-abbrev is_of_spelling : ConfigFault → Bool
+abbrev is_of_spelling : TableFault → Bool
 is_of_spelling (MethodInLowerCase line) = true
 is_of_spelling (StarInPath line) = true
 is_of_spelling _ = false
 
-never_by_spelling : (version : TableVersion) (fault : ConfigFault) → is_of_spelling fault ≡ false → (n : ℕ) (ms : Members) → ¬ (spelling_fault version n ms ≡ Some fault)
+never_by_spelling : (version : TableVersion) (fault : TableFault) → is_of_spelling fault ≡ false → (n : ℕ) (ms : Members) → ¬ (lowercase_or_star_fault version n ms ≡ Some fault)
 never_by_spelling One fault other n ms is = cc
 never_by_spelling Two fault other n ms is = cc
 never_by_spelling Three fault other n ms is = cc
@@ -316,7 +316,7 @@ never_by_spelling Four fault other n ms is = by_tests (line_has_lowercase_method
     by_tests false false e = cc
 
 -- before the fourth version no spelling is refused
-no_spelling_before : (version : TableVersion) (n : ℕ) (ms : Members) → has_keys_of version Four ≡ false → spelling_fault version n ms ≡ None
+no_spelling_before : (version : TableVersion) (n : ℕ) (ms : Members) → has_keys_of version Four ≡ false → lowercase_or_star_fault version n ms ≡ None
 no_spelling_before One n ms before = refl
 no_spelling_before Two n ms before = refl
 no_spelling_before Three n ms before = refl
@@ -357,7 +357,7 @@ never_of_words version line word n ms (Word bad_word) other known bad same =
     let good : line_key_has_good_value version ms (Word bad_word) ≡ true = missing_is_good version (word_row bad_word).place (word_row bad_word) ms (older_than_four version other) place (no_words version ms other known bad_word) in
     cc
 
-pub never_refused : (t : Members) (line : ℕ) → table_version_of t ≡ One → ¬ (judge_table t ≡ Err (BadCache line))
+pub never_refused : (t : Members) (line : ℕ) → table_version_of t ≡ One → ¬ (config_or_fault_of_table t ≡ Err (BadCache line))
 never_refused t line one = never_judged (BadCache line) refl One (never_of_cache line) (λ n ms same. cc) (λ t key same known bad. at_top key) t one
   where
     at_top : (key : TopKey) → ¬ (fault_of_top_key key ≡ BadCache line)
@@ -365,7 +365,7 @@ never_refused t line one = never_judged (BadCache line) refl One (never_of_cache
     at_top (Number key) same = cc
     at_top Lines same = cc
 
-pub never_refused_for_words : (t : Members) (line : ℕ) (word : LineOption) → has_keys_of (table_version_of t) Three ≡ false → ¬ (judge_table t ≡ Err (BadWord line word))
+pub never_refused_for_words : (t : Members) (line : ℕ) (word : LineOption) → has_keys_of (table_version_of t) Three ≡ false → ¬ (config_or_fault_of_table t ≡ Err (BadWord line word))
 never_refused_for_words t line word other =
     never_judged (BadWord line word) refl (table_version_of t) (λ n ms key known bad. never_of_words (table_version_of t) line word n ms key other known bad) (never_by_spelling (table_version_of t) (BadWord line word) refl) (λ t key same known bad. at_top key) t refl
   where
@@ -414,7 +414,7 @@ never_of_new_words version line word n ms (Word bad_word) since before known bad
     let good : line_key_has_good_value version ms (Word bad_word) ≡ true = missing_is_good version (word_row bad_word).place (word_row bad_word) ms before place none in
     cc
 
-pub never_refused_for_new_words : (t : Members) (line : ℕ) (word : LineOption) → (word_row word).since ≡ Four → has_keys_of (table_version_of t) Four ≡ false → ¬ (judge_table t ≡ Err (BadWord line word))
+pub never_refused_for_new_words : (t : Members) (line : ℕ) (word : LineOption) → (word_row word).since ≡ Four → has_keys_of (table_version_of t) Four ≡ false → ¬ (config_or_fault_of_table t ≡ Err (BadWord line word))
 never_refused_for_new_words t line word since before =
     never_judged (BadWord line word) refl (table_version_of t) (λ n ms key known bad. never_of_new_words (table_version_of t) line word n ms key since before known bad) (never_by_spelling (table_version_of t) (BadWord line word) refl) (λ t key same known bad. at_top key) t refl
   where
@@ -453,18 +453,18 @@ no_line_gives n Origin same = cc
 no_line_gives n Cache same = cc
 no_line_gives n (Word word) same = cc
 
-pub never_refused_for_bound : (t : Members) → has_keys_of (table_version_of t) Four ≡ false → ¬ (judge_table t ≡ Err (BadNumber MaxStore))
+pub never_refused_for_bound : (t : Members) → has_keys_of (table_version_of t) Four ≡ false → ¬ (config_or_fault_of_table t ≡ Err (BadNumber MaxStore))
 never_refused_for_bound t before =
     never_judged (BadNumber MaxStore) refl (table_version_of t) (λ n ms key known bad. no_line_gives n key) (never_by_spelling (table_version_of t) (BadNumber MaxStore) refl)
     (λ u key same known bad. never_of_bound u key (subst (λ v. has_keys_of v Four ≡ false) (sym same) before) known bad) t refl
 
 -- ---- spellings that the fourth version refuses
 
-never_spelled_before : (t : Members) (fault : ConfigFault) → is_of_added_key fault ≡ true → is_of_spelling fault ≡ true → has_keys_of (table_version_of t) Four ≡ false → ¬ (judge_table t ≡ Err fault)
+never_spelled_before : (t : Members) (fault : TableFault) → is_of_added_key fault ≡ true → is_of_spelling fault ≡ true → has_keys_of (table_version_of t) Four ≡ false → ¬ (config_or_fault_of_table t ≡ Err fault)
 never_spelled_before t fault added spelled before =
-    never_judged fault added (table_version_of t) (λ n ms key known bad same. no_key n key same) (λ n ms same. let none : spelling_fault (table_version_of t) n ms ≡ None = no_spelling_before (table_version_of t) n ms before in cc) (λ t key same known bad. at_top key) t refl
+    never_judged fault added (table_version_of t) (λ n ms key known bad same. no_key n key same) (λ n ms same. let none : lowercase_or_star_fault (table_version_of t) n ms ≡ None = no_spelling_before (table_version_of t) n ms before in cc) (λ t key same known bad. at_top key) t refl
   where
-    other : (x : ConfigFault) → is_of_spelling x ≡ false → ¬ (x ≡ fault)
+    other : (x : TableFault) → is_of_spelling x ≡ false → ¬ (x ≡ fault)
     other x is same = let bad : is_of_spelling fault ≡ false = subst (λ f. is_of_spelling f ≡ false) same is in cc
 
     no_key : (n : ℕ) (key : LineKey) → ¬ (fault_of_line_key n key ≡ fault)
@@ -480,38 +480,38 @@ never_spelled_before t fault added spelled before =
     at_top (Number key) = other (fault_of_top_key (Number key)) refl
     at_top Lines = other (fault_of_top_key Lines) refl
 
-pub never_refused_for_methods : (t : Members) (line : ℕ) → has_keys_of (table_version_of t) Four ≡ false → ¬ (judge_table t ≡ Err (MethodInLowerCase line))
+pub never_refused_for_methods : (t : Members) (line : ℕ) → has_keys_of (table_version_of t) Four ≡ false → ¬ (config_or_fault_of_table t ≡ Err (MethodInLowerCase line))
 never_refused_for_methods t line before = never_spelled_before t (MethodInLowerCase line) refl refl before
 
-pub never_refused_for_stars : (t : Members) (line : ℕ) → has_keys_of (table_version_of t) Four ≡ false → ¬ (judge_table t ≡ Err (StarInPath line))
+pub never_refused_for_stars : (t : Members) (line : ℕ) → has_keys_of (table_version_of t) Four ≡ false → ¬ (config_or_fault_of_table t ≡ Err (StarInPath line))
 never_refused_for_stars t line before = never_spelled_before t (StarInPath line) refl refl before
 
 -- a line of the fourth version that is read is spelled for it
-pub spelled_for_four : (n : ℕ) (ms : Members) → line_fault Four n ms ≡ None → LineHasNoLowercaseOrStar ms
+pub spelled_for_four : (n : ℕ) (ms : Members) → line_fault Four n ms ≡ None → LineHasNoLowercaseMethodOrStar ms
 unfolding line_fault
 spelled_for_four n ms none = by_keys (first_unknown (Line Four) ms) refl (first_bad_key Four ms) refl
   where
-    by_tests : (small star : Bool) → line_has_lowercase_method ms ≡ small → line_has_path_with_star ms ≡ star → cond small (Some (MethodInLowerCase n)) (cond star (Some (StarInPath n)) None) ≡ None → LineHasNoLowercaseOrStar ms
+    by_tests : (small star : Bool) → line_has_lowercase_method ms ≡ small → line_has_path_with_star ms ≡ star → cond small (Some (MethodInLowerCase n)) (cond star (Some (StarInPath n)) None) ≡ None → LineHasNoLowercaseMethodOrStar ms
     by_tests true star is also e = cc
     by_tests false true is also e = cc
     by_tests false false is also e = (is, also)
 
-    by_keys : (o : Option (List ℕ)) → first_unknown (Line Four) ms ≡ o → (p : Option LineKey) → first_bad_key Four ms ≡ p → LineHasNoLowercaseOrStar ms
+    by_keys : (o : Option (List ℕ)) → first_unknown (Line Four) ms ≡ o → (p : Option LineKey) → first_bad_key Four ms ≡ p → LineHasNoLowercaseMethodOrStar ms
     by_keys (Some key) e p f = let bad : line_fault Four n ms ≡ Some (UnknownKey key) = rw e refl in cc
     by_keys None e (Some key) f = let bad : line_fault Four n ms ≡ Some (fault_of_line_key n key) = rw e (rw f refl) in cc
     by_keys None e None f =
-        let is : line_fault Four n ms ≡ spelling_fault Four n ms = rw e (rw f refl) in
+        let is : line_fault Four n ms ≡ lowercase_or_star_fault Four n ms = rw e (rw f refl) in
         by_tests (line_has_lowercase_method ms) (line_has_path_with_star ms) refl refl (sym is ∙ none)
 
 -- a line that the third version reads is told its spelling's fault
-pub spelling_alone : (n : ℕ) (ms : Members) → LineHasNoKeyOfVersionFour ms → line_fault Three n ms ≡ None → line_fault Four n ms ≡ spelling_fault Four n ms
+pub spelling_alone : (n : ℕ) (ms : Members) → LineHasNoKeyOfVersionFour ms → line_fault Three n ms ≡ None → line_fault Four n ms ≡ lowercase_or_star_fault Four n ms
 unfolding line_fault
 spelling_alone n ms no_word none =
     let good = keys_are_good Three n ms none in
     let bad : first_bad_key Four ms ≡ None = bad_in_four ms (names_as_before Three ms refl good) ∙ good in
     by_keys bad (first_unknown (Line Three) ms) refl
   where
-    by_keys : first_bad_key Four ms ≡ None → (o : Option (List ℕ)) → first_unknown (Line Three) ms ≡ o → line_fault Four n ms ≡ spelling_fault Four n ms
+    by_keys : first_bad_key Four ms ≡ None → (o : Option (List ℕ)) → first_unknown (Line Three) ms ≡ o → line_fault Four n ms ≡ lowercase_or_star_fault Four n ms
     by_keys bad (Some key) e = let bad : line_fault Three n ms ≡ Some (UnknownKey key) = rw e refl in cc
     by_keys bad None e = rw (same_unknown_of_four ms no_word) (rw e (rw bad refl))
 
@@ -522,11 +522,11 @@ pub star_is_told : (n : ℕ) (ms : Members) → LineHasNoKeyOfVersionFour ms →
 star_is_told n ms no_word none small star = spelling_alone n ms no_word none ∙ rw small (rw star refl)
 
 -- where a table was read no key at the top is unknown, and none is bad
-read_without_fault : (t : Members) (table : Table) → judge_table t ≡ Ok table → (table_fault t ≡ None) × (table_of_members t ≡ table)
-unfolding judge_table
+read_without_fault : (t : Members) (table : Table) → config_or_fault_of_table t ≡ Ok table → (table_fault t ≡ None) × (table_of_members t ≡ table)
+unfolding config_or_fault_of_table
 read_without_fault t table e = by_fault (table_fault t) refl e
   where
-    by_fault : (o : Option ConfigFault) → table_fault t ≡ o → fault_or_table_read o t ≡ Ok table → (table_fault t ≡ None) × (table_of_members t ≡ table)
+    by_fault : (o : Option TableFault) → table_fault t ≡ o → fault_or_table_read o t ≡ Ok table → (table_fault t ≡ None) × (table_of_members t ≡ table)
     by_fault (Some fault) is e = cc
     by_fault None is e = (is, cc)
 
@@ -539,7 +539,7 @@ top_without_fault t none = by_keys (first_unknown (Top (table_version_of t)) t) 
     by_keys None e (Some key) f = let bad : table_fault t ≡ Some (fault_of_top_key key) = rw e (rw f refl) in cc
     by_keys None e None f = (e, f)
 
-pub read_unbounded : (t : Members) (table : Table) → has_keys_of (table_version_of t) Four ≡ false → judge_table t ≡ Ok table → table.max_store ≡ None
+pub read_unbounded : (t : Members) (table : Table) → has_keys_of (table_version_of t) Four ≡ false → config_or_fault_of_table t ≡ Ok table → table.max_store ≡ None
 unfolding table_of_members
 read_unbounded t table before e =
     let read = read_without_fault t table e in
@@ -557,7 +557,7 @@ within_range low high n (Some (pos k)) e = by_tests (leb low k) refl (leb k high
     by_tests true x false y e = cc
     by_tests false x b y e = cc
 
-pub read_bound : (t : Members) (table : Table) → judge_table t ≡ Ok table → IfSome table.max_store (λ most. (65536 ≤ most) × (most ≤ 2 ^ 40) × (table.max_stored ≤ most))
+pub read_bound : (t : Members) (table : Table) → config_or_fault_of_table t ≡ Ok table → IfSome table.max_store (λ most. (65536 ≤ most) × (most ≤ 2 ^ 40) × (table.max_stored ≤ most))
 unfolding table_of_members
 read_bound t table e =
     let read = read_without_fault t table e in
@@ -608,14 +608,14 @@ is_cached_line : (n : ℕ) (ms : Members) → line_fault One n ms ≡ None → (
 unfolding line_of_members
 is_cached_line n ms none =
     let known = all_keys_known One n ms none in
-    let caches : not (key_has_text (codes "cache") (codes "off") ms) ≡ true = rw (no_cache ms known) refl in
+    let caches : not (text_of_key_equals (codes "cache") (codes "off") ms) ≡ true = rw (no_cache ms known) refl in
     plain_policy One ms (λ word of_caching. no_words One ms refl known word) refl ∙ ap plain caches
 
 is_plain_line : (version : TableVersion) (n : ℕ) (ms : Members) → has_keys_of version Three ≡ false → line_fault version n ms ≡ None → (line_of_members version ms).policy ≡ plain (line_of_members version ms).policy.caches
 unfolding line_of_members
 is_plain_line version n ms other none =
     plain_policy version ms (λ word of_caching. no_words version ms other (all_keys_known version n ms none) word) (older version ms other)
-    ∙ ap (λ hides. default_policy_with_hidden_tags hides (not (key_has_text (codes "cache") (codes "off") ms))) (none_of_four version other)
+    ∙ ap (λ hides. default_policy_with_hidden_tags hides (not (text_of_key_equals (codes "cache") (codes "off") ms))) (none_of_four version other)
 
 is_line_of_three : (version : TableVersion) (n : ℕ) (ms : Members) → has_keys_of version Four ≡ false → line_fault version n ms ≡ None → LineIsAsInVersionThree (line_of_members version ms)
 unfolding line_of_members
@@ -627,20 +627,20 @@ is_line_of_three version n ms before none =
     let vary : get_member (codes "vary") ms ≡ None = not_among_known (Line version) (codes "vary") ms (unknown_word_of_four version Vary refl before) known in
     let timeout : get_member (codes "origin-timeout") ms ≡ None = not_among_known (Line version) (codes "origin-timeout") ms (unknown_word_of_four version OriginTimeout refl before) known in
     let key : get_member (codes "key") ms ≡ None = not_among_known (Line version) (codes "key") ms (unknown_word_of_four version PurgeKey refl before) known in
-    (rw before refl, rw most refl, rw before refl, rw before refl, rw before refl, rw before refl, rw before refl, rw before refl, rw stale refl, and_none (key_has_text (codes "wait") (codes "missing-or-stale") ms) before, rw before refl, rw cookies refl, rw vary refl, rw timeout refl, rw key refl, rw before refl, before)
+    (rw before refl, rw most refl, rw before refl, rw before refl, rw before refl, rw before refl, rw before refl, rw before refl, rw stale refl, and_none (text_of_key_equals (codes "wait") (codes "missing-or-stale") ms) before, rw before refl, rw cookies refl, rw vary refl, rw timeout refl, rw key refl, rw before refl, before)
   where
     and_none : {b : Bool} (a : Bool) → b ≡ false → (a && b) ≡ false
     and_none true e = e
     and_none false e = refl
 
-pub each_is_cached : (t : Members) (table : Table) → table_version_of t ≡ One → judge_table t ≡ Ok table → All (λ (line : PlainLine). line.policy ≡ plain true) table.lines
+pub each_is_cached : (t : Members) (table : Table) → table_version_of t ≡ One → config_or_fault_of_table t ≡ Ok table → All (λ (line : PlainLine). line.policy ≡ plain true) table.lines
 each_is_cached t table one e =
     each_line_read (λ (line : PlainLine). line.policy ≡ plain true) t table
     (λ n ms none. subst (λ v. (line_of_members v ms).policy ≡ plain true) (sym one) (is_cached_line n ms (subst (λ v. line_fault v n ms ≡ None) one none))) (sym e)
 
-pub each_is_plain : (t : Members) (table : Table) → has_keys_of (table_version_of t) Three ≡ false → judge_table t ≡ Ok table → All (λ (line : PlainLine). line.policy ≡ plain line.policy.caches) table.lines
+pub each_is_plain : (t : Members) (table : Table) → has_keys_of (table_version_of t) Three ≡ false → config_or_fault_of_table t ≡ Ok table → All (λ (line : PlainLine). line.policy ≡ plain line.policy.caches) table.lines
 each_is_plain t table other e =
     each_line_read (λ (line : PlainLine). line.policy ≡ plain line.policy.caches) t table (λ n ms none. is_plain_line (table_version_of t) n ms other none) (sym e)
 
-pub each_is_of_three : (t : Members) (table : Table) → has_keys_of (table_version_of t) Four ≡ false → judge_table t ≡ Ok table → All LineIsAsInVersionThree table.lines
+pub each_is_of_three : (t : Members) (table : Table) → has_keys_of (table_version_of t) Four ≡ false → config_or_fault_of_table t ≡ Ok table → All LineIsAsInVersionThree table.lines
 each_is_of_three t table before e = each_line_read LineIsAsInVersionThree t table (λ n ms none. is_line_of_three (table_version_of t) n ms before none) (sym e)

@@ -1,6 +1,6 @@
 -- Addresses of origins: four decimal numbers and a port.
 --
--- address_of: the address that a text spells          is_address: a text spells one
+-- address_of: the address that a text spells          is_ipv4_and_port: a text spells one
 use Rattle.std.specs.Prelude.{ℕ, nat_le, ◌==◌, nat_lt, Bool, false, not, ◌&&◌, if◌then◌else◌, List, [], ◌∷◌, length}
 use Rattle.std.specs.Prelude.{slice_index, Option, Some, None, is_some, option_map}
 use Rattle.std.specs.Option.{option_and_then}
@@ -51,9 +51,9 @@ address_of text = do
   Some (address_of_numbers a.0 b.0 c.0 d.0 port)
 
 -- a text spells an address
-abbrev pub is_address : List ℕ → Bool
-is_address text = is_some (address_of text)
+abbrev pub is_ipv4_and_port : List ℕ → Bool
+is_ipv4_and_port text = is_some (address_of text)
 
 -- the text, where it spells an address
-abbrev pub address_text : List ℕ → Option (List ℕ)
-address_text text = if is_address text then Some text else None
+abbrev pub text_if_address : List ℕ → Option (List ℕ)
+text_if_address text = if is_ipv4_and_port text then Some text else None

@@ -56,6 +56,6 @@ abbrev pub is_cookie_pair : CookiePair → Bool
 is_cookie_pair pair = is_token pair.name && list_all (λ b. not (b == semicolon)) pair.value
 
 -- a line with these pairs
-abbrev pub cookie_line_text : CookiePair → List CookiePair → List ℕ
-cookie_line_text pair [] = cookie_pair_text pair
-cookie_line_text pair (next ∷ more) = cookie_pair_text pair ++ semicolon ∷ 32 ∷ cookie_line_text next more
+abbrev pub cookie_field_value : CookiePair → List CookiePair → List ℕ
+cookie_field_value pair [] = cookie_pair_text pair
+cookie_field_value pair (next ∷ more) = cookie_pair_text pair ++ semicolon ∷ 32 ∷ cookie_field_value next more

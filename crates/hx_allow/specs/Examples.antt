@@ -42,29 +42,30 @@ abbrev pub key_with_number : List ℕ → ℕ → KeyAndTomlValue
 key_with_number key n = (key, integer (pos n))
 
 -- the methods of a line, one of them
-abbrev pub key_with_method : List ℕ → KeyAndTomlValue
-key_with_method name = (codes "methods", array (array_of_values (string name ∷ [])))
+abbrev pub methods_key_of_one_method : List ℕ → KeyAndTomlValue
+methods_key_of_one_method name = (codes "methods", array (array_of_values (string name ∷ [])))
 
 -- a line of these four keys
 abbrev pub line_table : List ℕ → List ℕ → List ℕ → List ℕ → Members
 line_table host name path origin =
-    table_of_pairs (key_with_text (codes "host") host ∷ key_with_method name ∷ key_with_text (codes "origin") origin
+    table_of_pairs (key_with_text (codes "host") host ∷ methods_key_of_one_method name ∷ key_with_text (codes "origin") origin
     ∷ key_with_text (codes "path") path ∷ [])
 
 -- a line for every host with these keys besides, which come before `host`
 abbrev pub line_table_with_keys : List KeyAndTomlValue → Members
-line_table_with_keys pairs = table_of_pairs (pairs ++ key_with_text (codes "host") (codes "*") ∷ key_with_method (codes "GET")
+line_table_with_keys pairs = table_of_pairs
+    (pairs ++ key_with_text (codes "host") (codes "*") ∷ methods_key_of_one_method (codes "GET")
     ∷ key_with_text (codes "origin") (codes "127.0.0.1:8081") ∷ key_with_text (codes "path") (codes "/") ∷ [])
 
 -- such a line, which denies
 abbrev pub denying_line_table_with : List KeyAndTomlValue → Members
-denying_line_table_with pairs = table_of_pairs (pairs ++ key_with_text (codes "host") (codes "*") ∷ key_with_method
+denying_line_table_with pairs = table_of_pairs (pairs ++ key_with_text (codes "host") (codes "*") ∷ methods_key_of_one_method
     (codes "GET")
     ∷ key_with_text (codes "origin") (codes "deny") ∷ key_with_text (codes "path") (codes "/") ∷ [])
 
 -- such a line, which purges
 abbrev pub purging_line_table_with : List KeyAndTomlValue → Members
-purging_line_table_with pairs = table_of_pairs (pairs ++ key_with_text (codes "host") (codes "*") ∷ key_with_method
+purging_line_table_with pairs = table_of_pairs (pairs ++ key_with_text (codes "host") (codes "*") ∷ methods_key_of_one_method
     (codes "PURGE")
     ∷ key_with_text (codes "origin") (codes "purge") ∷ key_with_text (codes "path") (codes "/") ∷ [])
 
@@ -99,8 +100,8 @@ line_host_or_every None = Every
 line_host_or_every (Some host) = One host
 
 -- a line that is read, with one method
-abbrev pub line_with_method : Option (List ℕ) → List ℕ → List ℕ → Option (List ℕ) → Line
-line_with_method host name path origin = record {
+abbrev pub example_line_with_method : Option (List ℕ) → List ℕ → List ℕ → Option (List ℕ) → Line
+example_line_with_method host name path origin = record {
   hosts = line_host_or_every host ∷ [];
   methods = name ∷ [];
   paths = path ∷ [];
@@ -148,28 +149,29 @@ origin_8081 = Some (codes "127.0.0.1:8081")
 
 -- a line without words of version 4, over which requests that loop are refused
 abbrev pub line_of_version_four : Line
-line_of_version_four = record (line_with_method None (codes "GET") (codes "/") origin_8081) {
+line_of_version_four = record (example_line_with_method None (codes "GET") (codes "/") origin_8081) {
   policy = policy_of_version_four;
   refuses_loops = true;
   wait_timeout = Some 5;
 }
 
 -- the first line denies a path, the second allows to get any
-abbrev pub first_line_denies : List Line
-first_line_denies = line_with_method None (codes "*") (codes "/admin") None ∷ line_with_method None (codes "GET")
+abbrev pub lines_with_denying_line_first : List Line
+lines_with_denying_line_first = example_line_with_method None (codes "*") (codes "/admin") None
+    ∷ example_line_with_method None (codes "GET")
     (codes "/") origin_8081 ∷ []
 
 -- the same, but the second is for one host
 abbrev pub several_lines : List Line
-several_lines = line_with_method None (codes "*") (codes "/admin") None ∷ line_with_method (Some (codes "x"))
+several_lines = example_line_with_method None (codes "*") (codes "/admin") None ∷ example_line_with_method (Some (codes "x"))
     (codes "GET") (codes "/") origin_8081 ∷ []
 
 -- two lines for one host around one for every host
-abbrev pub indexed_lines : List Line
-indexed_lines =
-    line_with_method (Some (codes "x")) (codes "*") (codes "/p") None ∷ line_with_method None (codes "GET")
+abbrev pub example_lines_to_index : List Line
+example_lines_to_index =
+    example_line_with_method (Some (codes "x")) (codes "*") (codes "/p") None ∷ example_line_with_method None (codes "GET")
     (codes "/") origin_8081
-    ∷ line_with_method (Some (codes "x")) (codes "POST") (codes "/") origin_8081 ∷ []
+    ∷ example_line_with_method (Some (codes "x")) (codes "POST") (codes "/") origin_8081 ∷ []
 
 -- the same in a table of this name, but that the second refuses requests that loop
 abbrev pub loop_refusing_table : Table
@@ -179,19 +181,19 @@ loop_refusing_table = record {
   max_body = 1000;
   max_stored = 1000;
   max_store = None;
-  lines = line_with_method (Some (codes "x")) (codes "*") (codes "/p") None
-      ∷ record (line_with_method None (codes "GET") (codes "/") origin_8081) { refuses_loops = true }
-      ∷ line_with_method (Some (codes "x")) (codes "POST") (codes "/") origin_8081 ∷ [];
+  lines = example_line_with_method (Some (codes "x")) (codes "*") (codes "/p") None
+      ∷ record (example_line_with_method None (codes "GET") (codes "/") origin_8081) { refuses_loops = true }
+      ∷ example_line_with_method (Some (codes "x")) (codes "POST") (codes "/") origin_8081 ∷ [];
 }
 
 -- a table of this name whose first line names two cookies and refuses loops, and whose second does neither
 abbrev pub session_cookie_table : Table
 session_cookie_table = record loop_refusing_table {
-  lines = record (line_with_method None (codes "GET") (codes "/shop") origin_8081) {
+  lines = record (example_line_with_method None (codes "GET") (codes "/shop") origin_8081) {
     refuses_loops = true;
     session_cookies = codes "sid" ∷ codes "login" ∷ [];
   }
-      ∷ line_with_method None (codes "GET") (codes "/") origin_8081 ∷ [];
+      ∷ example_line_with_method None (codes "GET") (codes "/") origin_8081 ∷ [];
 }
 
 -- a line whose origin is given 5 seconds, one that says nothing of it, and one that gives 7
@@ -213,8 +215,8 @@ purge_key = codes "0123456789abcXYZ"
 -- a table whose first line purges by that key, and whose second by another
 abbrev pub table_with_purging_line : Table
 table_with_purging_line = record loop_refusing_table {
-  lines = record (line_with_method None (codes "PURGE") (codes "/a") None) { purge_key = Some purge_key }
-      ∷ record (line_with_method None (codes "PURGE") (codes "/p") None) {
+  lines = record (example_line_with_method None (codes "PURGE") (codes "/a") None) { purge_key = Some purge_key }
+      ∷ record (example_line_with_method None (codes "PURGE") (codes "/p") None) {
         purge_key = Some (codes "0123456789abcXYz");
       }
       ∷ [];
@@ -234,10 +236,10 @@ eight_vary_names =
 -- a table whose first line names two fields, and whose second names none
 abbrev pub table_with_vary_lines : Table
 table_with_vary_lines = record loop_refusing_table {
-  lines = record (line_with_method None (codes "GET") (codes "/shop") origin_8081) {
+  lines = record (example_line_with_method None (codes "GET") (codes "/shop") origin_8081) {
     vary = codes "X-Forwarded-Proto" ∷ codes "X-Device" ∷ [];
   }
-      ∷ line_with_method None (codes "GET") (codes "/") origin_8081 ∷ [];
+      ∷ example_line_with_method None (codes "GET") (codes "/") origin_8081 ∷ [];
 }
 
 -- a line that denies two paths of two hosts and of those below one, one for the hosts below it, and one for every host
@@ -248,9 +250,9 @@ lines_with_several_hosts =
     ∷ line_with_hosts_and_paths (Every ∷ []) (codes "/" ∷ []) (Some (codes "127.0.0.1:8082")) ∷ []
 
 -- a line with these values of `host` and `path`
-abbrev pub line_table_of : Data → Data → Members
-line_table_of host path =
-    table_of_pairs ((codes "host", host) ∷ key_with_method (codes "GET") ∷ key_with_text (codes "origin") (codes "deny")
+abbrev pub table_of_host_and_path : Data → Data → Members
+table_of_host_and_path host path =
+    table_of_pairs ((codes "host", host) ∷ methods_key_of_one_method (codes "GET") ∷ key_with_text (codes "origin") (codes "deny")
     ∷ (codes "path", path) ∷ [])
 
 -- a list of these texts
@@ -258,10 +260,10 @@ abbrev pub list_of_texts : List (List ℕ) → Data
 list_of_texts texts = array (array_of_values (map (λ text. string text) texts))
 
 -- a line without cache, and one with it
-abbrev pub line_without_cache : List Line
-line_without_cache =
-    record (line_with_method None (codes "*") (codes "/live") origin_8081) { policy = plain false }
-    ∷ line_with_method None (codes "GET") (codes "/") origin_8081 ∷ []
+abbrev pub lines_without_and_with_cache : List Line
+lines_without_and_with_cache =
+    record (example_line_with_method None (codes "*") (codes "/live") origin_8081) { policy = plain false }
+    ∷ example_line_with_method None (codes "GET") (codes "/") origin_8081 ∷ []
 
 -- seven tags, of one letter, of a list that goes on
 abbrev pub seven_tags_and_a_comma : List ℕ

@@ -1,12 +1,12 @@
 -- What is wrong with a table and what may stand there, in words for the operator.
 use Rattle.std.specs.Prelude.{ℕ, List, [], ◌++◌, Option, None, Some, codes, decimal}
-use Rattle.hx_allow.specs.declared.config_faults.ConfigFault.{ConfigFault}
-use Rattle.hx_allow.specs.declared.config_faults.ConfigFault.TheVariants.{NotToml, UnknownKey, BadName, BadNumber}
-use Rattle.hx_allow.specs.declared.config_faults.ConfigFault.TheVariants.{BadHost}
-use Rattle.hx_allow.specs.declared.config_faults.ConfigFault.TheVariants.{BadMethod, BadPath, BadOrigin, NoLines}
-use Rattle.hx_allow.specs.declared.config_faults.ConfigFault.TheVariants.{OutOfMemory}
-use Rattle.hx_allow.specs.declared.config_faults.ConfigFault.TheVariants.{BadCache, BadWord, MethodInLowerCase}
-use Rattle.hx_allow.specs.declared.config_faults.ConfigFault.TheVariants.{StarInPath}
+use Rattle.hx_allow.specs.declared.config_faults.TableFault.{TableFault}
+use Rattle.hx_allow.specs.declared.config_faults.TableFault.TheVariants.{NotToml, UnknownKey, BadName, BadNumber}
+use Rattle.hx_allow.specs.declared.config_faults.TableFault.TheVariants.{BadHost}
+use Rattle.hx_allow.specs.declared.config_faults.TableFault.TheVariants.{BadMethod, BadPath, BadOrigin, NoLines}
+use Rattle.hx_allow.specs.declared.config_faults.TableFault.TheVariants.{OutOfMemory}
+use Rattle.hx_allow.specs.declared.config_faults.TableFault.TheVariants.{BadCache, BadWord, MethodInLowerCase}
+use Rattle.hx_allow.specs.declared.config_faults.TableFault.TheVariants.{StarInPath}
 use Rattle.hx_allow.specs.declared.rows.LineKey.TheVariants.{Host, Methods, Path, Origin, Cache}
 use Rattle.hx_allow.specs.declared.rows.KeyPlace.{KeyPlace}
 use Rattle.hx_allow.specs.declared.rows.TopKey.TheVariants.{Name}
@@ -18,7 +18,7 @@ use Rattle.hx_allow.specs.Rows.{KeyDefinition, number_key_row, row_of_top_key, w
 use Rattle.hx_allow.specs.Rows.{requirement_of_unknown_key}
 
 -- the line at fault, counted from 1
-abbrev pub line_number_of_fault : ConfigFault → Option ℕ
+abbrev pub line_number_of_fault : TableFault → Option ℕ
 line_number_of_fault (BadHost line) = Some line
 line_number_of_fault (BadMethod line) = Some line
 line_number_of_fault (BadPath line) = Some line
@@ -68,7 +68,7 @@ abbrev pub requirement_of_row : KeyDefinition → List ℕ
 requirement_of_row row = row.key ++ (codes " has to " ++ (requirement_of_kind row.kind ++ requirement_of_place row.place))
 
 -- the row of the key at fault
-abbrev pub key_row_at_fault : ConfigFault → Option KeyDefinition
+abbrev pub key_row_at_fault : TableFault → Option KeyDefinition
 key_row_at_fault BadName = Some (row_of_top_key Name)
 key_row_at_fault (BadNumber number) = Some (number_key_row number)
 key_row_at_fault (BadHost line) = Some (row_of_line_key Host)
@@ -80,7 +80,7 @@ key_row_at_fault (BadWord line word) = Some (word_row word)
 key_row_at_fault _ = None
 
 -- what has to stand there, of a fault without a row
-abbrev pub requirement_without_row : ConfigFault → List ℕ
+abbrev pub requirement_without_row : TableFault → List ℕ
 requirement_without_row NotToml = codes "the table is no TOML, has a key twice, or has more than 1048576 bytes; look for a quote or bracket that is missing"
 requirement_without_row (UnknownKey key) = requirement_of_unknown_key
 requirement_without_row NoLines = codes "a table has 1 to 256 lines, or 1 to 4096 in version 4, each of which begins with [[line]]"
@@ -89,12 +89,12 @@ requirement_without_row (MethodInLowerCase line) = codes "a method has a letter 
 requirement_without_row (StarInPath line) = codes "path has a *, which is that character and no pattern; leave it out: a path matches itself and all below it"
 requirement_without_row _ = []
 
-abbrev pub requirement_of_row_or_fault : Option KeyDefinition → ConfigFault → List ℕ
+abbrev pub requirement_of_row_or_fault : Option KeyDefinition → TableFault → List ℕ
 requirement_of_row_or_fault (Some row) fault = requirement_of_row row
 requirement_of_row_or_fault None fault = requirement_without_row fault
 
 -- what has to stand there
-abbrev pub requirement_of_fault : ConfigFault → List ℕ
+abbrev pub requirement_of_fault : TableFault → List ℕ
 requirement_of_fault fault = requirement_of_row_or_fault (key_row_at_fault fault) fault
 
 -- the place in the table, where a line is at fault
@@ -102,5 +102,5 @@ abbrev pub line_number_prefix_text : Option ℕ → List ℕ
 line_number_prefix_text (Some line) = codes "in [[line]] number " ++ (decimal line ++ codes " ")
 line_number_prefix_text None = []
 
-abbrev pub fault_text : ConfigFault → List ℕ
+abbrev pub fault_text : TableFault → List ℕ
 fault_text fault = line_number_prefix_text (line_number_of_fault fault) ++ requirement_of_fault fault

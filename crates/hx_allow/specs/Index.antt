@@ -1,7 +1,7 @@
 -- Which lines a host can match, kept beside the lines so that a request looks at no others.
 --
 -- parent_domains_of: the hosts that one is below
--- line_numbers_with: the numbers of the lines that have hosts of a kind
+-- numbers_of_lines_with_host: the numbers of the lines that have hosts of a kind
 -- IsHostIndexOfLines: the index has the lines that name a host, those for the hosts below one, and those for every host
 -- verdict_by_line_numbers: the first of some lines that a method and a path match, where nothing before it was found
 -- verdict_of_parent_domains: the same of the lines for the hosts below each of some
@@ -31,9 +31,9 @@ parent_domains_of [] = []
 parent_domains_of (b ∷ bytes) = if b == 46 then bytes ∷ parent_domains_of bytes else parent_domains_of bytes
 
 -- a line's host is this one, those below this one, or every host
-abbrev pub is_exactly_host : List ℕ → LineHost → Bool
-is_exactly_host host (One own) = bytes_eq own host
-is_exactly_host host _ = false
+abbrev pub line_host_is_exactly : List ℕ → LineHost → Bool
+line_host_is_exactly host (One own) = bytes_eq own host
+line_host_is_exactly host _ = false
 
 abbrev pub is_wildcard_of : List ℕ → LineHost → Bool
 is_wildcard_of host (Below own) = bytes_eq own host
@@ -52,41 +52,45 @@ abbrev pub line_can_match_host : List ℕ → Line → Bool
 line_can_match_host host line = any_host_matches line.hosts host
 
 -- a number for each of these hosts that passes a test
-abbrev pub number_for_each_host : ℕ → (LineHost → Bool) → List LineHost → List ℕ
-number_for_each_host n test [] = []
-number_for_each_host n test (host ∷ hosts) =
-    if test host then n ∷ number_for_each_host n test hosts else number_for_each_host n test hosts
+abbrev pub number_repeated_for_hosts : ℕ → (LineHost → Bool) → List LineHost → List ℕ
+number_repeated_for_hosts n test [] = []
+number_repeated_for_hosts n test (host ∷ hosts) =
+    if test host then n ∷ number_repeated_for_hosts n test hosts else number_repeated_for_hosts n test hosts
 
 -- the numbers of the lines that have such hosts, ascending, one for each such host, where the first of the list has
 -- this number
-abbrev pub line_numbers_from : ℕ → (LineHost → Bool) → List Line → List ℕ
-line_numbers_from n test [] = []
-line_numbers_from n test (line ∷ lines) = number_for_each_host n test line.hosts ++ line_numbers_from (n + 1) test lines
+abbrev pub numbers_of_lines_with_host_from : ℕ → (LineHost → Bool) → List Line → List ℕ
+numbers_of_lines_with_host_from n test [] = []
+numbers_of_lines_with_host_from n test
+    (line ∷ lines) = number_repeated_for_hosts n test line.hosts ++ numbers_of_lines_with_host_from (n + 1) test lines
 
 -- the same, where lines are counted from 1
-abbrev pub line_numbers_with : (LineHost → Bool) → List Line → List ℕ
-line_numbers_with test lines = line_numbers_from 1 test lines
+abbrev pub numbers_of_lines_with_host : (LineHost → Bool) → List Line → List ℕ
+numbers_of_lines_with_host test lines = numbers_of_lines_with_host_from 1 test lines
 
 -- hosts and the numbers of lines, both as the index keeps them
 abbrev pub Numbers : Type 0
 Numbers = Vec ℕ Global
 
 -- the numbers that are kept for a host
-abbrev pub line_numbers_for : BTreeMap Numbers Numbers → List ℕ → List ℕ
-line_numbers_for kept host = option_map_or (λ (numbers : Numbers). numbers.items)
+abbrev pub line_numbers_for_host : BTreeMap Numbers Numbers → List ℕ → List ℕ
+line_numbers_for_host kept host = option_map_or (λ (numbers : Numbers). numbers.items)
     (get_by (λ key. slice_cmp nat_cmp host key.items) kept) []
 
 -- nothing is kept for a longer host
 abbrev pub NoIndexedHostIsLonger : ℕ → BTreeMap Numbers Numbers → Type 0
-NoIndexedHostIsLonger longest kept = (host : List ℕ) → longest < length host → line_numbers_for kept host ≡ []
+NoIndexedHostIsLonger longest kept = (host : List ℕ) → longest < length host → line_numbers_for_host kept host ≡ []
 
 -- the index has for each host the numbers of the lines that name it, of those for the hosts below it, and those of the
 -- lines for every host
 abbrev pub IsHostIndexOfLines : List Line → HostIndex → Type 0
 IsHostIndexOfLines lines index =
-    ((host : List ℕ) → line_numbers_for index.named host ≡ line_numbers_with (is_exactly_host host) lines)
-    × ((host : List ℕ) → line_numbers_for index.below host ≡ line_numbers_with (is_wildcard_of host) lines)
-    × (index.every.items ≡ line_numbers_with is_for_every_host lines) × NoIndexedHostIsLonger index.longest index.below
+    ((host : List ℕ) → line_numbers_for_host index.named host
+    ≡ numbers_of_lines_with_host (line_host_is_exactly host) lines)
+    × ((host : List ℕ) → line_numbers_for_host index.below host
+    ≡ numbers_of_lines_with_host (is_wildcard_of host) lines)
+    × (index.every.items ≡ numbers_of_lines_with_host is_for_every_host lines) × NoIndexedHostIsLonger index.longest
+    index.below
 
 abbrev pub append_number_if : Bool → List ℕ → ℕ → List ℕ
 append_number_if belongs numbers n = if belongs then numbers ++ n ∷ [] else numbers
@@ -94,17 +98,18 @@ append_number_if belongs numbers n = if belongs then numbers ++ n ∷ [] else nu
 -- the number of a line was put behind those of each of these hosts, and the index has no longer host than it says
 abbrev pub LineHostsAreIndexed : List LineHost → ℕ → HostIndex → HostIndex → Type 0
 LineHostsAreIndexed hosts n old new =
-    ((host : List ℕ) → line_numbers_for new.named host
-    ≡ line_numbers_for old.named host ++ number_for_each_host n (is_exactly_host host) hosts)
-    × ((host : List ℕ) → line_numbers_for new.below host
-    ≡ line_numbers_for old.below host ++ number_for_each_host n (is_wildcard_of host) hosts)
-    × (new.every.items ≡ old.every.items ++ number_for_each_host n is_for_every_host hosts)
+    ((host : List ℕ) → line_numbers_for_host new.named host
+    ≡ line_numbers_for_host old.named host ++ number_repeated_for_hosts n (line_host_is_exactly host) hosts)
+    × ((host : List ℕ) → line_numbers_for_host new.below host
+    ≡ line_numbers_for_host old.below host ++ number_repeated_for_hosts n (is_wildcard_of host) hosts)
+    × (new.every.items ≡ old.every.items ++ number_repeated_for_hosts n is_for_every_host hosts)
     × (NoIndexedHostIsLonger old.longest old.below → NoIndexedHostIsLonger new.longest new.below)
 
 -- the number of a line was put behind those of a host
 abbrev pub LineNumberIsIndexedForHost : List ℕ → ℕ → BTreeMap Numbers Numbers → BTreeMap Numbers Numbers → Type 0
 LineNumberIsIndexedForHost own n old new =
-    (host : List ℕ) → line_numbers_for new host ≡ append_number_if (bytes_eq own host) (line_numbers_for old host) n
+    (host : List ℕ) → line_numbers_for_host new host
+    ≡ append_number_if (bytes_eq own host) (line_numbers_for_host old host) n
 
 -- one of the line's paths and a method match
 abbrev pub line_matches_method_and_path : Line → List ℕ → List ℕ → Bool
@@ -136,7 +141,7 @@ abbrev pub verdict_of_parent_domains : List Line → BTreeMap Numbers Numbers �
 verdict_of_parent_domains lines kept [] method path found = found
 verdict_of_parent_domains lines kept (host ∷ hosts) method path found =
     verdict_of_parent_domains lines kept hosts method path
-    (verdict_by_line_numbers lines (line_numbers_for kept host) method path found)
+    (verdict_by_line_numbers lines (line_numbers_for_host kept host) method path found)
 
 -- the first line that passes a test and that a method and a path match, where the first of the list has this number
 abbrev pub verdict_of_lines_that_pass : ℕ → (Line → Bool) → List Line → List ℕ → List ℕ → Verdict

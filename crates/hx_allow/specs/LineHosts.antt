@@ -11,14 +11,14 @@ use Rattle.hx_allow.specs.declared.line_hosts.LineHost.{LineHost}
 use Rattle.hx_allow.specs.declared.line_hosts.LineHost.TheVariants.{Every, One, Below}
 
 -- a byte in front of the first label
-abbrev pub labels_with_first_byte : ℕ → List (List ℕ) → List (List ℕ)
-labels_with_first_byte b [] = (b ∷ []) ∷ []
-labels_with_first_byte b (label ∷ labels) = (b ∷ label) ∷ labels
+abbrev pub labels_with_byte_in_front : ℕ → List (List ℕ) → List (List ℕ)
+labels_with_byte_in_front b [] = (b ∷ []) ∷ []
+labels_with_byte_in_front b (label ∷ labels) = (b ∷ label) ∷ labels
 
 -- the labels of a host, which dots join (RFC 1034, section 3.1)
 abbrev pub labels_of : List ℕ → List (List ℕ)
 labels_of [] = [] ∷ []
-labels_of (b ∷ bytes) = if b == 46 then [] ∷ labels_of bytes else labels_with_first_byte b (labels_of bytes)
+labels_of (b ∷ bytes) = if b == 46 then [] ∷ labels_of bytes else labels_with_byte_in_front b (labels_of bytes)
 
 -- what is left of some labels without the first, the first two, and so on
 abbrev pub label_suffixes_of : List (List ℕ) → List (List (List ℕ))
@@ -26,15 +26,15 @@ label_suffixes_of [] = []
 label_suffixes_of (label ∷ labels) = labels ∷ label_suffixes_of labels
 
 -- label by label; both hosts are in lower case, the line's and the target's
-abbrev pub are_same_labels : List (List ℕ) → List (List ℕ) → Bool
-are_same_labels [] [] = true
-are_same_labels (label ∷ labels) (other ∷ others) = bytes_eq label other && are_same_labels labels others
-are_same_labels _ _ = false
+abbrev pub labels_are_byte_equal : List (List ℕ) → List (List ℕ) → Bool
+labels_are_byte_equal [] [] = true
+labels_are_byte_equal (label ∷ labels) (other ∷ others) = bytes_eq label other && labels_are_byte_equal labels others
+labels_are_byte_equal _ _ = false
 
 -- the asked host has the labels of the other behind one or more of its own, so it is contained in that
 -- domain (RFC 1034, section 3.1)
 abbrev pub is_below_host : List ℕ → List ℕ → Bool
-is_below_host host asked = list_any (are_same_labels (labels_of host)) (label_suffixes_of (labels_of asked))
+is_below_host host asked = list_any (labels_are_byte_equal (labels_of host)) (label_suffixes_of (labels_of asked))
 
 -- `*.`, which a host follows
 abbrev pub begins_with_star_dot : List ℕ → Bool
@@ -58,6 +58,6 @@ abbrev pub any_host_matches : List LineHost → List ℕ → Bool
 any_host_matches hosts asked = list_any (λ host. line_host_matches host asked) hosts
 
 -- the hosts below one are named
-abbrev pub is_host_wildcard : LineHost → Bool
-is_host_wildcard (Below host) = true
-is_host_wildcard _ = false
+abbrev pub is_subdomain_wildcard : LineHost → Bool
+is_subdomain_wildcard (Below host) = true
+is_subdomain_wildcard _ = false

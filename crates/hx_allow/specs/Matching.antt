@@ -19,24 +19,24 @@ use Rattle.hx_policy.specs.Policies.{plain, default_policy_with_hidden_tags}
 use Rattle.hx_allow.specs.Addresses.{address_of}
 use Rattle.hx_allow.specs.LineHosts.{any_host_matches}
 use Rattle.hx_allow.specs.Cookies.{has_cookie_among}
-use Rattle.hx_allow.specs.Purges.{asks_to_purge}
+use Rattle.hx_allow.specs.Purges.{asks_to_purge_with_key}
 use Rattle.hx_allow.specs.TableLines.{Line, Table}
-use Rattle.hx_allow.specs.declared.verdicts.RequestRoute.{RequestRoute}
+use Rattle.hx_allow.specs.declared.verdicts.RouteOverLine.{RouteOverLine}
 use Rattle.hx_allow.specs.Values.{is_some_and}
 use Rattle.hx_allow.specs.Via.{times_in_via, via_names_proxy_twice}
 use Rattle.hx_allow.specs.declared.verdicts.Verdict.{Verdict}
 use Rattle.hx_allow.specs.declared.verdicts.Verdict.TheVariants.{Allowed, DeniedBy, NoLine, Looped, Purged}
 
 -- own: methods that no line allows: a tunnel, and two that need Max-Forwards (RFC 9110, sections 7.6.2 and 9.3.6)
-abbrev pub is_never_allowed : List ℕ → Bool
-is_never_allowed method = bytes_eq method (codes "CONNECT") || bytes_eq method (codes "TRACE") || bytes_eq method (codes "OPTIONS")
+abbrev pub method_is_never_allowed : List ℕ → Bool
+method_is_never_allowed method = bytes_eq method (codes "CONNECT") || bytes_eq method (codes "TRACE") || bytes_eq method (codes "OPTIONS")
 
 abbrev pub is_star_or_same : List ℕ → List ℕ → Bool
 is_star_or_same method text = bytes_eq text (codes "*") || bytes_eq text method
 
 -- methods compare with their case (RFC 9110, section 9.1)
 abbrev pub matches_method : List (List ℕ) → List ℕ → Bool
-matches_method methods method = not (is_never_allowed method) && list_any (is_star_or_same method) methods
+matches_method methods method = not (method_is_never_allowed method) && list_any (is_star_or_same method) methods
 
 -- the path of a line begins the asked one, and a slash follows
 abbrev pub is_below_path : List ℕ → List ℕ → Bool
@@ -58,12 +58,12 @@ matches_line line method target =
     && any_path_matches line.paths target.table_path
 
 -- the way over the line of a number for a request that doesn't go past the store
-abbrev pub route_over : ℕ → RequestRoute
-route_over n = record { number = n; past_store = false }
+abbrev pub route_over_line : ℕ → RouteOverLine
+route_over_line n = record { number = n; past_store = false }
 
 -- what a line of this number says where it decides
 abbrev pub verdict_of_line : ℕ → Line → Verdict
-verdict_of_line n line = if is_some line.origin then Allowed (route_over n) else DeniedBy n
+verdict_of_line n line = if is_some line.origin then Allowed (route_over_line n) else DeniedBy n
 
 -- the first line that matches, where the first of the list has this number
 abbrev pub verdict_from : ℕ → List Line → List ℕ → Target → Verdict
@@ -93,7 +93,7 @@ line_policy lines n = unwrap_or (option_map (λ (line : Line). line.policy) (lin
 
 -- what counts for a request that goes this way; past the store it is what a line without cache says, and whether tags
 -- are hidden is as over the line
-unfoldable pub policy_of : List Line → RequestRoute → Policy
+unfoldable pub policy_of : List Line → RouteOverLine → Policy
 policy_of lines route =
     if route.past_store then default_policy_with_hidden_tags (line_policy lines route.number).hides_tags false
     else line_policy lines route.number
@@ -124,7 +124,7 @@ line_refuses_loops lines n =
     unwrap_or (option_map (λ (line : Line). line.refuses_loops) (line_of_number lines n)) false
 
 -- over a line that refuses loops a request was here before
-abbrev pub request_is_refused_as_loop : Table → RequestRoute → List Field → Bool
+abbrev pub request_is_refused_as_loop : Table → RouteOverLine → List Field → Bool
 request_is_refused_as_loop table route fields =
     line_refuses_loops table.lines route.number && nat_le 1 (times_in_via table.name fields)
 
@@ -155,30 +155,31 @@ abbrev pub wait_timeout_of : List Line → ℕ → Option ℕ
 wait_timeout_of lines n = option_and_then (λ (line : Line). line.wait_timeout) (line_of_number lines n)
 
 -- over this line a request goes past the store, since it has such a cookie
-abbrev pub has_session_cookie_of_line : List Line → ℕ → List Field → Bool
-has_session_cookie_of_line lines n fields = has_cookie_among (session_cookies_of lines n) fields
+abbrev pub request_has_session_cookie_of_line : List Line → ℕ → List Field → Bool
+request_has_session_cookie_of_line lines n fields = has_cookie_among (session_cookies_of lines n) fields
 
 -- by which way a request goes that is allowed
-abbrev pub verdict_after_cookie_check : List Line → List Field → Verdict → Verdict
-verdict_after_cookie_check lines fields (Allowed route) =
-    Allowed (record { number = route.number; past_store = has_session_cookie_of_line lines route.number fields })
-verdict_after_cookie_check lines fields (DeniedBy n) = DeniedBy n
-verdict_after_cookie_check lines fields NoLine = NoLine
-verdict_after_cookie_check lines fields (Looped n) = Looped n
-verdict_after_cookie_check lines fields (Purged n) = Purged n
+abbrev pub verdict_routed_by_session_cookies : List Line → List Field → Verdict → Verdict
+verdict_routed_by_session_cookies lines fields (Allowed route) =
+    Allowed (record
+    { number = route.number; past_store = request_has_session_cookie_of_line lines route.number fields })
+verdict_routed_by_session_cookies lines fields (DeniedBy n) = DeniedBy n
+verdict_routed_by_session_cookies lines fields NoLine = NoLine
+verdict_routed_by_session_cookies lines fields (Looped n) = Looped n
+verdict_routed_by_session_cookies lines fields (Purged n) = Purged n
 
 -- the key of the line of this number, where it purges
 abbrev pub purge_key_of : List Line → ℕ → Option (List ℕ)
 purge_key_of lines n = option_and_then (λ (line : Line). line.purge_key) (line_of_number lines n)
 
 -- the line of this number purges for a request with these fields
-abbrev pub request_purges_over_line : List Line → ℕ → List Field → Bool
-request_purges_over_line lines n fields = is_some_and (λ key. asks_to_purge key fields) (purge_key_of lines n)
+abbrev pub line_purges_for_request : List Line → ℕ → List Field → Bool
+line_purges_for_request lines n fields = is_some_and (λ key. asks_to_purge_with_key key fields) (purge_key_of lines n)
 
 -- a line that purges denies each request but those that show its key and ask for nothing that isn't known
 abbrev pub verdict_after_purge : List Line → List Field → Verdict → Verdict
 verdict_after_purge lines fields (Allowed route) = Allowed route
-verdict_after_purge lines fields (DeniedBy n) = if request_purges_over_line lines n fields then Purged n else DeniedBy n
+verdict_after_purge lines fields (DeniedBy n) = if line_purges_for_request lines n fields then Purged n else DeniedBy n
 verdict_after_purge lines fields NoLine = NoLine
 verdict_after_purge lines fields (Looped n) = Looped n
 verdict_after_purge lines fields (Purged n) = Purged n
@@ -189,6 +190,6 @@ verdict_after_purge lines fields (Purged n) = Purged n
 unfoldable pub verdict_of_request : Table → List ℕ → Target → List Field → Verdict
 verdict_of_request table method target fields =
     verdict_after_purge table.lines fields
-    (verdict_after_cookie_check table.lines fields
+    (verdict_routed_by_session_cookies table.lines fields
     (verdict_after_loop_check table.lines (via_names_proxy_twice table.name fields)
     (verdict_of table.lines method target)))

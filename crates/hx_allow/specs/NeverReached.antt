@@ -1,7 +1,7 @@
 -- Lines that are never reached, since one in front takes all that they match.
 --
 -- line_covers_line: a line matches whatever another one does
--- first_covering_line: the first line in front that does
+-- first_line_covering_line: the first line in front that does
 use Rattle.std.specs.Prelude.{ℕ, ◌-◌, Bool, true, false, not, ◌&&◌, ◌||◌, List, take, codes, bytes_eq, Option}
 use Rattle.std.specs.Option.{option_and_then}
 use Rattle.std.specs.List.{list_any, list_all, position_from}
@@ -41,7 +41,7 @@ line_covers_line first later =
     && paths_cover_paths first.paths later.paths
 
 -- the first line in front of the one with this number that takes all of it; lines are counted from 1
-abbrev pub first_covering_line : List Line → ℕ → Option ℕ
-first_covering_line lines n =
+abbrev pub first_line_covering_line : List Line → ℕ → Option ℕ
+first_line_covering_line lines n =
     option_and_then (λ later. position_from (λ first. line_covers_line first later) 1 (take (n - 1) lines))
     (line_of_number lines n)

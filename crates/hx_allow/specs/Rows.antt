@@ -1,14 +1,14 @@
 -- The keys of the operator's table: a row for each, and the order in which their faults are looked for.
 --
 -- number_key_row, row_of_top_key: the row of a key at the top     top_keys: their order
--- word_row, row_of_line_key: the row of a key of a line       line_words, line_keys: their order
+-- word_row, row_of_line_key: the row of a key of a line       line_words, all_line_keys: their order
 -- fault_of_top_key, fault_of_line_key: what is told of a key that is missing, or stands as it can't
 -- requirement_of_unknown_key: what is told of a key that isn't known
 use Rattle.std.specs.Prelude.{ℕ, nat_le, Bool, List, [], ◌∷◌, codes, map}
-use Rattle.hx_allow.specs.declared.config_faults.ConfigFault.{ConfigFault}
-use Rattle.hx_allow.specs.declared.config_faults.ConfigFault.TheVariants.{BadName, BadNumber, NoLines, BadHost}
-use Rattle.hx_allow.specs.declared.config_faults.ConfigFault.TheVariants.{BadMethod}
-use Rattle.hx_allow.specs.declared.config_faults.ConfigFault.TheVariants.{BadPath, BadOrigin, BadCache, BadWord}
+use Rattle.hx_allow.specs.declared.config_faults.TableFault.{TableFault}
+use Rattle.hx_allow.specs.declared.config_faults.TableFault.TheVariants.{BadName, BadNumber, NoLines, BadHost}
+use Rattle.hx_allow.specs.declared.config_faults.TableFault.TheVariants.{BadMethod}
+use Rattle.hx_allow.specs.declared.config_faults.TableFault.TheVariants.{BadPath, BadOrigin, BadCache, BadWord}
 use Rattle.hx_allow.specs.declared.config_faults.LineOption.{LineOption}
 use Rattle.hx_allow.specs.declared.config_faults.LineOption.TheVariants.{Lifetime, ErrorLifetime, StaleIfError}
 use Rattle.hx_allow.specs.declared.config_faults.LineOption.TheVariants.{SetCookie}
@@ -96,7 +96,7 @@ row_of_top_key Lines = row_of_required_key (codes "line") some_lines
 abbrev pub top_keys : List TopKey
 top_keys = Name ∷ Number Version ∷ Number Capacity ∷ Number MaxBody ∷ Number MaxStored ∷ Number MaxStore ∷ Lines ∷ []
 
-abbrev pub fault_of_top_key : TopKey → ConfigFault
+abbrev pub fault_of_top_key : TopKey → TableFault
 fault_of_top_key Name = BadName
 fault_of_top_key (Number key) = BadNumber key
 fault_of_top_key Lines = NoLines
@@ -155,11 +155,11 @@ row_of_line_key Cache = record {
 row_of_line_key (Word word) = word_row word
 
 -- the keys of a line, in the order in which they are looked at
-abbrev pub line_keys : List LineKey
-line_keys = Host ∷ Methods ∷ Path ∷ Origin ∷ Cache ∷ map Word line_words
+abbrev pub all_line_keys : List LineKey
+all_line_keys = Host ∷ Methods ∷ Path ∷ Origin ∷ Cache ∷ map Word line_words
 
 -- the fault of a key in the line with this number
-abbrev pub fault_of_line_key : ℕ → LineKey → ConfigFault
+abbrev pub fault_of_line_key : ℕ → LineKey → TableFault
 fault_of_line_key n Host = BadHost n
 fault_of_line_key n Methods = BadMethod n
 fault_of_line_key n Path = BadPath n
@@ -193,22 +193,23 @@ greatest_number a_version = 4
 greatest_number _ = 0
 
 -- the rows of the code
-abbrev pub kind_of_source : SourceKind → ValueKind
-kind_of_source (source.Number low high) = a_number low high
-kind_of_source (source.Seconds low high) = some_seconds low high
-kind_of_source (source.StoreBound low high) = a_store_bound low high
-kind_of_source source.Version = a_version
-kind_of_source (source.OneOf first second) = one_of first.now second.now
-kind_of_source (source.OneOfInFour first second third) = one_of_in_four first.now second.now third.now
-kind_of_source (source.OneOfThree first second third) = one_of_three first.now second.now third.now
-kind_of_source (source.Names most) = some_names most
-kind_of_source source.Name = a_name
-kind_of_source source.Lines = some_lines
-kind_of_source source.Host = a_host
-kind_of_source source.Methods = some_methods
-kind_of_source source.Path = a_path
-kind_of_source source.Origin = an_origin
-kind_of_source source.PurgeKey = a_purge_key
+abbrev pub value_kind_of_source_kind : SourceKind → ValueKind
+value_kind_of_source_kind (source.Number low high) = a_number low high
+value_kind_of_source_kind (source.Seconds low high) = some_seconds low high
+value_kind_of_source_kind (source.StoreBound low high) = a_store_bound low high
+value_kind_of_source_kind source.Version = a_version
+value_kind_of_source_kind (source.OneOf first second) = one_of first.now second.now
+value_kind_of_source_kind (source.OneOfInFour first second third) = one_of_in_four first.now second.now third.now
+value_kind_of_source_kind (source.OneOfThree first second third) = one_of_three first.now second.now third.now
+value_kind_of_source_kind (source.Names most) = some_names most
+value_kind_of_source_kind source.Name = a_name
+value_kind_of_source_kind source.Lines = some_lines
+value_kind_of_source_kind source.Host = a_host
+value_kind_of_source_kind source.Methods = some_methods
+value_kind_of_source_kind source.Path = a_path
+value_kind_of_source_kind source.Origin = an_origin
+value_kind_of_source_kind source.PurgeKey = a_purge_key
 
-abbrev pub row_of_source : SourceRow → KeyDefinition
-row_of_source row = record { key = row.key.now; since = row.since; kind = kind_of_source row.kind; place = row.place }
+abbrev pub definition_of_source_row : SourceRow → KeyDefinition
+definition_of_source_row row = record
+    { key = row.key.now; since = row.since; kind = value_kind_of_source_kind row.kind; place = row.place }

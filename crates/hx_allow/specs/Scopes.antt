@@ -4,9 +4,10 @@ use Rattle.std.specs.List.{list_any}
 use Rattle.hx_fields.specs.Line.{Field}
 use Rattle.hx_fields.specs.FieldLines.{values_of}
 use Rattle.hx_target.specs.declared.keys.Key.{Key}
-use Rattle.hx_allow.specs.PurgeModes.{PurgeModeIsKnown}
-use Rattle.hx_allow.specs.Purges.{ends_with_slash, path_before_query, is_unknown_purge_field, purge_scope_of}
-use Rattle.hx_allow.specs.Tags.{purge_tag_of}
+use Rattle.hx_allow.specs.PurgeModes.{PurgeModeIsAbsentOrStale}
+use Rattle.hx_allow.specs.Purges.{ends_with_slash, path_before_query, is_unknown_purge_header_field}
+use Rattle.hx_allow.specs.Purges.{purge_scope_of_fields}
+use Rattle.hx_allow.specs.Tags.{purge_tag_of_request}
 
 -- A path is at or below another: it is that path, or goes on behind it with a slash; behind one that ends with a slash,
 -- with anything.
@@ -27,8 +28,8 @@ pub record KeyIsOfSameTarget (asked key : Key) : Type 0 where
   pub same_path : key.path_query ≡ asked.path_query
 
 -- Each order of a request is known here: no line names another, and scope, tag and mode are known, each by its lines.
-pub record EachPurgeOrderIsKnown (fields : List Field) : Type 0 where
-  pub no_other : list_any is_unknown_purge_field fields ≡ false
-  pub scope : is_some (purge_scope_of fields) ≡ true
-  pub tag : is_some (purge_tag_of fields) ≡ true
-  pub mode : PurgeModeIsKnown (values_of fields (codes "Purge-Mode"))
+pub record EachPurgeFieldIsKnownAndValid (fields : List Field) : Type 0 where
+  pub no_other : list_any is_unknown_purge_header_field fields ≡ false
+  pub scope : is_some (purge_scope_of_fields fields) ≡ true
+  pub tag : is_some (purge_tag_of_request fields) ≡ true
+  pub mode : PurgeModeIsAbsentOrStale (values_of fields (codes "Purge-Mode"))

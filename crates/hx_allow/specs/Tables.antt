@@ -1,7 +1,7 @@
 -- What a TOML table says as an operator's table, or its first fault.
 --
 -- table_fault: the first fault that stands      table_of_members: what is said where none stands
--- judge_table: one or the other
+-- config_or_fault_of_table: one or the other
 -- BytesReadAsTable: the same of bytes, with the reading of TOML as a relation
 -- TableWasRead: some text reads as a table
 use Rattle.std.specs.Prelude.{◌≡◌, ◌⊎◌, ◌≤◌, ℕ, ◌==◌, nat_le, Bool, true, false, not, ◌&&◌, ◌||◌, if◌then◌else◌, List}
@@ -15,13 +15,14 @@ use Rattle.toml.specs.Parse.{parse_document}
 use Rattle.hx_allow.specs.TableLines.{Table}
 use Rattle.hx_allow.specs.LineTables.{first_fault_of_lines, lines_of_tables}
 use Rattle.hx_allow.specs.Rows.{number_key_row, top_keys, fault_of_top_key}
-use Rattle.hx_allow.specs.Values.{first_unknown, text_of_key, number_in, is_some_and, count_is_from_1_to, all_items}
+use Rattle.hx_allow.specs.Values.{first_unknown, text_of_key, number_in, is_some_and, count_is_from_1_to}
+use Rattle.hx_allow.specs.Values.{all_items_pass}
 use Rattle.hx_allow.specs.Values.{items_of_key}
 use Rattle.hx_allow.specs.declared.values.Scope.TheVariants.{Top}
 use Rattle.hx_allow.specs.declared.values.TableVersion.{TableVersion}
 use Rattle.hx_allow.specs.declared.values.TableVersion.TheVariants.{One, Two, Three, Four}
-use Rattle.hx_allow.specs.declared.config_faults.ConfigFault.{ConfigFault}
-use Rattle.hx_allow.specs.declared.config_faults.ConfigFault.TheVariants.{NotToml, UnknownKey}
+use Rattle.hx_allow.specs.declared.config_faults.TableFault.{TableFault}
+use Rattle.hx_allow.specs.declared.config_faults.TableFault.TheVariants.{NotToml, UnknownKey}
 use Rattle.hx_allow.specs.declared.rows.TopKey.{TopKey}
 use Rattle.hx_allow.specs.declared.rows.TopKey.TheVariants.{Name, Number, Lines}
 use Rattle.hx_allow.specs.declared.config_faults.NumberKey.{NumberKey}
@@ -52,15 +53,15 @@ table_version_of t =
     else One
 
 -- an array of tables, of as many as the version has
-abbrev pub are_line_tables : TableVersion → Items → Bool
-are_line_tables version ds = count_is_from_1_to (most_lines_of_version version) ds
-    && all_items (λ d. is_some (as_table d)) ds
+abbrev pub is_line_table_array : TableVersion → Items → Bool
+is_line_table_array version ds = count_is_from_1_to (most_lines_of_version version) ds
+    && all_items_pass (λ d. is_some (as_table d)) ds
 
 abbrev pub items_if_line_tables : TableVersion → Items → Option Items
-items_if_line_tables version ds = if are_line_tables version ds then Some ds else None
+items_if_line_tables version ds = if is_line_table_array version ds then Some ds else None
 
-abbrev pub line_items_of_table : Members → Option Items
-line_items_of_table t = option_and_then (items_if_line_tables (table_version_of t)) (items_of_key (codes "line") t)
+abbrev pub line_tables_of_toml : Members → Option Items
+line_tables_of_toml t = option_and_then (items_if_line_tables (table_version_of t)) (items_of_key (codes "line") t)
 
 -- The bytes of the store aren't bounded, or the bound is within its range and no less than that of one content, which
 -- is looked at before it.
@@ -77,21 +78,21 @@ top_number_key_has_good_value t key = is_some (number_of_key key t)
 abbrev pub top_key_has_good_value : Members → TopKey → Bool
 top_key_has_good_value t Name = is_some_and is_name (text_of_key (codes "name") t)
 top_key_has_good_value t (Number key) = top_number_key_has_good_value t key
-top_key_has_good_value t Lines = is_some (line_items_of_table t)
+top_key_has_good_value t Lines = is_some (line_tables_of_toml t)
 
 -- the first key at the top that is missing or isn't good, in the order in which they are looked at
 abbrev pub first_bad_top_key : Members → Option TopKey
 first_bad_top_key t = find (λ key. not (top_key_has_good_value t key)) top_keys
 
 -- the first fault of a table, in the order in which they are looked for
-unfoldable pub table_fault : Members → Option ConfigFault
+unfoldable pub table_fault : Members → Option TableFault
 table_fault t = after_keys (first_unknown (Top (table_version_of t)) t)
   where
-    after_top : Option TopKey → Option ConfigFault
+    after_top : Option TopKey → Option TableFault
     after_top (Some key) = Some (fault_of_top_key key)
-    after_top None = first_fault_of_lines (table_version_of t) 1 (unwrap_or (line_items_of_table t) no_items)
+    after_top None = first_fault_of_lines (table_version_of t) 1 (unwrap_or (line_tables_of_toml t) no_items)
 
-    after_keys : Option (List ℕ) → Option ConfigFault
+    after_keys : Option (List ℕ) → Option TableFault
     after_keys (Some key) = Some (UnknownKey key)
     after_keys None = after_top (first_bad_top_key t)
 
@@ -103,25 +104,25 @@ table_of_members t = record {
   max_body = unwrap_or (number_of_key MaxBody t) 0;
   max_stored = unwrap_or (number_of_key MaxStored t) 0;
   max_store = number_of_key MaxStore t;
-  lines = lines_of_tables (table_version_of t) (unwrap_or (line_items_of_table t) no_items);
+  lines = lines_of_tables (table_version_of t) (unwrap_or (line_tables_of_toml t) no_items);
 }
 
-abbrev pub fault_or_table_read : Option ConfigFault → Members → Result Table ConfigFault
+abbrev pub fault_or_table_read : Option TableFault → Members → Result Table TableFault
 fault_or_table_read (Some fault) t = Err fault
 fault_or_table_read None t = Ok (table_of_members t)
 
 -- the first fault of a table, or what it says
-unfoldable pub judge_table : Members → Result Table ConfigFault
-judge_table t = fault_or_table_read (table_fault t) t
+unfoldable pub config_or_fault_of_table : Members → Result Table TableFault
+config_or_fault_of_table t = fault_or_table_read (table_fault t) t
 
 -- the bytes are TOML of this table, within the limit
 abbrev pub BytesAreToml : List ℕ → Members → Type 0
 BytesAreToml bytes t = (length bytes ≤ 1048576) × IsUtf8 bytes × (parse_document bytes ≡ Some t)
 
 -- what the bytes are read as: what their table says, or NotToml where they are none
-abbrev pub BytesReadAsTable : List ℕ → Result Table ConfigFault → Type 0
+abbrev pub BytesReadAsTable : List ℕ → Result Table TableFault → Type 0
 BytesReadAsTable bytes r =
-    ((t : Members) × BytesAreToml bytes t × (r ≡ judge_table t))
+    ((t : Members) × BytesAreToml bytes t × (r ≡ config_or_fault_of_table t))
     ⊎ (((t : Members) → ¬ (BytesAreToml bytes t)) × (r ≡ Err NotToml))
 
 -- some text is TOML of these members
@@ -133,7 +134,7 @@ abbrev pub TableWasRead : Table → Type 0
 TableWasRead table = (text : List ℕ) × BytesReadAsTable text (Ok table)
 
 -- memory is taken before a fault is told only for the bytes of a key
-abbrev pub fault_may_be_out_of_memory : Option ConfigFault → Bool
-fault_may_be_out_of_memory None = true
-fault_may_be_out_of_memory (Some (UnknownKey key)) = true
-fault_may_be_out_of_memory (Some _) = false
+abbrev pub out_of_memory_may_precede_fault : Option TableFault → Bool
+out_of_memory_may_precede_fault None = true
+out_of_memory_may_precede_fault (Some (UnknownKey key)) = true
+out_of_memory_may_precede_fault (Some _) = false

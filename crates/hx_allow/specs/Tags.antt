@@ -1,7 +1,8 @@
 -- The tags that a response names, and the one that a request to purge asks for.
 --
--- cache_tags_of, response_names_tag: of a response          is_cache_tag, purge_tag_of, purge_tag_or_none: of a request
--- tag_comparisons_left, tag_comparisons_left_after_lines: how many more may be looked at
+-- cache_tags_of, response_names_tag: of a response          is_cache_tag, purge_tag_of_request, purge_tag_or_none: of a
+-- request
+-- comparisons_left_unless_found, comparisons_left_behind_fields: how many more may be looked at
 use Rattle.std.specs.Prelude.{ℕ, ◌==◌, ◌-◌, nat_lt, Bool, true, not, ◌&&◌, ◌||◌, List, [], ◌∷◌, length, codes, bytes_eq}
 use Rattle.std.specs.Prelude.{Option, Some, None, unwrap_or, if◌then◌else◌}
 use Rattle.std.specs.List.{list_any, list_all}
@@ -26,9 +27,9 @@ response_names_tag tag fields =
     (cache_tags_of fields)
 
 -- a response is one of those that a purge with this tag, or with none, is for
-abbrev pub is_purged_by_tag : Option (List ℕ) → List Field → Bool
-is_purged_by_tag None fields = true
-is_purged_by_tag (Some tag) fields = response_names_tag tag fields
+abbrev pub is_purged_by_tag_if_any : Option (List ℕ) → List Field → Bool
+is_purged_by_tag_if_any None fields = true
+is_purged_by_tag_if_any (Some tag) fields = response_names_tag tag fields
 
 -- ---- what is asked for
 
@@ -42,26 +43,27 @@ purge_tag_of_values [] = Some None
 purge_tag_of_values (value ∷ []) = if is_cache_tag value then Some (Some value) else None
 purge_tag_of_values (value ∷ other ∷ more) = None
 
-abbrev pub purge_tag_of : List Field → Option (Option (List ℕ))
-purge_tag_of fields = purge_tag_of_values (values_of fields (codes "Purge-Tag"))
+abbrev pub purge_tag_of_request : List Field → Option (Option (List ℕ))
+purge_tag_of_request fields = purge_tag_of_values (values_of fields (codes "Purge-Tag"))
 
 -- the tag that a request to purge asks for
 abbrev pub purge_tag_or_none : List Field → Option (List ℕ)
-purge_tag_or_none fields = unwrap_or (purge_tag_of fields) None
+purge_tag_or_none fields = unwrap_or (purge_tag_of_request fields) None
 
 -- ---- one member after the other
 
 -- how many more may be looked at behind these, unless one of them is the tag or they are too many
-abbrev pub tag_comparisons_left : List ℕ → ℕ → List (List ℕ) → Option ℕ
-tag_comparisons_left tag left [] = Some left
-tag_comparisons_left tag left (member ∷ members) =
-    if (left == 0) || bytes_eq tag member then None else tag_comparisons_left tag (left - 1) members
+abbrev pub comparisons_left_unless_found : List ℕ → ℕ → List (List ℕ) → Option ℕ
+comparisons_left_unless_found tag left [] = Some left
+comparisons_left_unless_found tag left (member ∷ members) =
+    if (left == 0) || bytes_eq tag member then None else comparisons_left_unless_found tag (left - 1) members
 
 -- the same of lines
-abbrev pub tag_comparisons_left_after_lines : List ℕ → ℕ → List Field → Option ℕ
-tag_comparisons_left_after_lines tag left [] = Some left
-tag_comparisons_left_after_lines tag left (field ∷ fields) =
+abbrev pub comparisons_left_behind_fields : List ℕ → ℕ → List Field → Option ℕ
+comparisons_left_behind_fields tag left [] = Some left
+comparisons_left_behind_fields tag left (field ∷ fields) =
     if is_named (codes "Cache-Tag") field
-    then option_and_then (λ still. tag_comparisons_left_after_lines tag still fields) (tag_comparisons_left tag left
+    then option_and_then (λ still. comparisons_left_behind_fields tag still fields)
+    (comparisons_left_unless_found tag left
     (members_of_value field.value))
-    else tag_comparisons_left_after_lines tag left fields
+    else comparisons_left_behind_fields tag left fields

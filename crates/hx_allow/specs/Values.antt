@@ -8,7 +8,7 @@ use Rattle.toml.specs.Data.{as_array}
 use Rattle.hx_allow.specs.declared.values.Scope.{Scope}
 use Rattle.hx_allow.specs.declared.values.Scope.TheVariants.{Top, Line}
 use Rattle.hx_allow.specs.declared.values.TableVersion.{TableVersion}
-use Rattle.hx_allow.specs.Rows.{KeyDefinition, row_of_top_key, top_keys, row_of_line_key, line_keys, has_keys_of}
+use Rattle.hx_allow.specs.Rows.{KeyDefinition, row_of_top_key, top_keys, row_of_line_key, all_line_keys, has_keys_of}
 use Rattle.hx_allow.specs.Rows.{least_number}
 use Rattle.hx_allow.specs.Rows.{greatest_number}
 
@@ -20,7 +20,7 @@ is_row_key_in_version version key row = has_keys_of version row.since && bytes_e
 abbrev pub is_known_key : Scope → List ℕ → Bool
 is_known_key (Top version) key = list_any (λ known. is_row_key_in_version version key (row_of_top_key known)) top_keys
 is_known_key (Line version) key =
-    list_any (λ known. is_row_key_in_version version key (row_of_line_key known)) line_keys
+    list_any (λ known. is_row_key_in_version version key (row_of_line_key known)) all_line_keys
 
 -- the first key that isn't known; the members of a table ascend by the bytes of their keys, so it is the least
 abbrev pub first_unknown : Scope → Members → Option (List ℕ)
@@ -51,9 +51,9 @@ abbrev pub item_count : Items → ℕ
 item_count no_items = 0
 item_count (item d ds) = item_count ds + 1
 
-abbrev pub all_items : (Data → Bool) → Items → Bool
-all_items test no_items = true
-all_items test (item d ds) = test d && all_items test ds
+abbrev pub all_items_pass : (Data → Bool) → Items → Bool
+all_items_pass test no_items = true
+all_items_pass test (item d ds) = test d && all_items_pass test ds
 
 abbrev pub count_is_from_1_to : ℕ → Items → Bool
 count_is_from_1_to most ds = nat_le 1 (item_count ds) && nat_le (item_count ds) most

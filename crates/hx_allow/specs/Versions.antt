@@ -4,8 +4,8 @@ use Rattle.std.specs.List.{list_any}
 use Rattle.toml.specs.Data.{Members, get_member}
 use Rattle.hx_policy.specs.Policies.{default_policy_with_hidden_tags}
 use Rattle.hx_allow.specs.Keys.{key_of_line_option}
-use Rattle.hx_allow.specs.LineHosts.{begins_with_star_dot, is_host_wildcard}
-use Rattle.hx_allow.specs.LineWords.{key_has_text}
+use Rattle.hx_allow.specs.LineHosts.{begins_with_star_dot, is_subdomain_wildcard}
+use Rattle.hx_allow.specs.LineWords.{text_of_key_equals}
 use Rattle.hx_allow.specs.LineTables.{line_has_lowercase_method, line_has_path_with_star}
 use Rattle.hx_allow.specs.LineWords.{line_purges}
 use Rattle.hx_allow.specs.Purges.{is_purge_key}
@@ -26,20 +26,20 @@ LineHasNoKeyOfVersionFour ms = (word : LineOption) → (word_row word).since ≡
     → get_member (key_of_line_option word) ms ≡ None
 
 -- no method has a letter in lower case, and the path has no `*`
-abbrev pub LineHasNoLowercaseOrStar : Members → Type 0
-LineHasNoLowercaseOrStar ms = (line_has_lowercase_method ms ≡ false) × (line_has_path_with_star ms ≡ false)
+abbrev pub LineHasNoLowercaseMethodOrStar : Members → Type 0
+LineHasNoLowercaseMethodOrStar ms = (line_has_lowercase_method ms ≡ false) × (line_has_path_with_star ms ≡ false)
 
 -- host and path are no lists, the host isn't `*.` and another, `set-cookie` isn't `removed`, and the line doesn't purge
 abbrev pub LineReadsAsInVersionThree : Members → Type 0
 LineReadsAsInVersionThree ms =
     (items_of_key (codes "host") ms ≡ None) × (items_of_key (codes "path") ms ≡ None)
     × (is_some_and begins_with_star_dot (text_of_key (codes "host") ms) ≡ false)
-    × (key_has_text (codes "set-cookie") (codes "removed") ms ≡ false) × (line_purges Four ms ≡ false)
+    × (text_of_key_equals (codes "set-cookie") (codes "removed") ms ≡ false) × (line_purges Four ms ≡ false)
 
 -- one path, and one host or every one
 abbrev pub LineHasOneHostAndPath : Line → Type 0
 LineHasOneHostAndPath line =
-    (length line.hosts ≡ 1) × (length line.paths ≡ 1) × (list_any is_host_wildcard line.hosts ≡ false)
+    (length line.hosts ≡ 1) × (length line.paths ≡ 1) × (list_any is_subdomain_wildcard line.hosts ≡ false)
 
 -- no word on caching stands
 abbrev pub LineHasNoCachingKey : Members → Type 0
@@ -54,7 +54,7 @@ LineHasNoCachingKey ms = (word : LineOption) → (word_row word).place ≡ Cachi
 abbrev pub LineIsAsInVersionThree : Line → Type 0
 LineIsAsInVersionThree line =
     (line.policy.error_lifetime ≡ line.policy.lifetime) × (line.policy.lifetime_most ≡ None)
-    × (line.policy.removes_cookies ≡ false) × (line.policy.gives_to_set_cookie ≡ true)
+    × (line.policy.removes_set_cookie ≡ false) × (line.policy.gives_to_set_cookie ≡ true)
     × (line.policy.gives_to_cookies ≡ true) × (line.policy.forwards_conditions ≡ true)
     × (line.policy.forwards_ranges ≡ true) × (line.policy.fills_ranges ≡ false)
     × (line.policy.stale_while_revalidate ≡ None) × (line.policy.sends_while_revalidating ≡ false)
@@ -70,5 +70,5 @@ LineWithCachingKeysCaches line =
     ⊎ ((is_some line.origin ≡ true) × (line.policy.caches ≡ true))
 
 -- a line that has a key purges: it has no origin, and its key is one
-abbrev pub PurgeKeyIsOfPurgingLine : Line → Type 0
-PurgeKeyIsOfPurgingLine line = IfSome line.purge_key (λ key. (is_purge_key key ≡ true) × (line.origin ≡ None))
+abbrev pub OnlyPurgingLineHasPurgeKey : Line → Type 0
+OnlyPurgingLineHasPurgeKey line = IfSome line.purge_key (λ key. (is_purge_key key ≡ true) × (line.origin ≡ None))

@@ -4,22 +4,22 @@ ghost use Rattle.std.specs.Option.{option_copied, option_map};
 ghost use Rattle.std.specs.Net.Text.{socket_v4_text};
 ghost use Rattle.hx_allow.specs.Matching.{verdict_of, verdict_of_request, origin_of, origin_address_of, line_policy};
 ghost use Rattle.hx_allow.specs.Matching.{line_refuses_loops, request_is_refused_as_loop, VerdictNamesAnOrigin};
-ghost use Rattle.hx_allow.specs.Matching.{policy_of, session_cookies_of, has_session_cookie_of_line};
+ghost use Rattle.hx_allow.specs.Matching.{policy_of, session_cookies_of, request_has_session_cookie_of_line};
 ghost use Rattle.hx_allow.specs.Matching.{vary_names_of_line};
-ghost use Rattle.hx_allow.specs.Matching.{origin_timeout_of, purge_key_of, request_purges_over_line};
+ghost use Rattle.hx_allow.specs.Matching.{origin_timeout_of, purge_key_of, line_purges_for_request};
 ghost use Rattle.hx_allow.specs.Matching.{wait_timeout_of};
-ghost use Rattle.hx_allow.specs.NeverReached.{first_covering_line};
+ghost use Rattle.hx_allow.specs.NeverReached.{first_line_covering_line};
 ghost use Rattle.hx_allow.specs.Tables.{BytesReadAsTable, TableWasRead};
 
 use crate::cookies::has_cookie_among;
 use crate::host_index::HostIndex;
-use crate::lines::{Line, is_never_allowed};
+use crate::lines::{Line, method_is_never_allowed};
 use crate::matching::{line_at, line_refuses_loops, verdict_by_host_index};
 use crate::origins::Origin;
-use crate::purges::asks_to_purge;
-use crate::shadows::first_line_covering;
+use crate::purges::asks_to_purge_with_key;
+use crate::shadows::first_line_covering_later_line;
 use crate::via::{via_names_proxy, via_names_proxy_twice};
-use crate::{ConfigFault, RequestRoute, Verdict, config_reading};
+use crate::{RouteOverLine, TableFault, Verdict, config_reading};
 use http::Method;
 use hx_fields::{Bytes, Fields};
 use hx_policy::Policy;
@@ -30,7 +30,7 @@ use std::net::SocketAddrV4;
 
 /// The operator's table: the proxy's name, its limits, which requests go to which origin, and which of them may be
 /// answered from the store.
-pub struct Config {
+pub struct Table {
     pub(crate) name: String,
     pub(crate) capacity: usize,
     pub(crate) max_body: u64,
@@ -42,9 +42,9 @@ pub struct Config {
 }
 
 /// One call drops it, wherever that is.
-impl Drop for Config {
+impl Drop for Table {
     fn drop(self) {
-        let Config {
+        let Table {
             name: _,
             capacity: _,
             max_body: _,
@@ -56,7 +56,7 @@ impl Drop for Config {
     }
 }
 
-impl Model for Config {
+impl Model for Table {
     ghost use Rattle.std.specs.Prelude.{string_bytes, length, ◌≤◌, ◌≡◌, IfSome};
     ghost use Rattle.hx_allow.specs.TableLines.{Table};
     ghost use Rattle.hx_allow.specs.Index.{IsHostIndexOfLines};
@@ -85,15 +85,15 @@ impl Model for Config {
         × IfSome c.max_store (λ most. most ≤ 1099511627776) };
 }
 
-impl Config {
+impl Table {
     /// Reads a table of version 1, 2, 3 or 4. The first fault in the order of looking is answered;
     /// out of memory is told in its place where the text or a key couldn't be copied.
-    pub fn read(alloc: Global, bytes: &[u8]) -> Result<Config, ConfigFault>
-        ensures table { ¬ (result ≡ Err ConfigFault.OutOfMemory) → BytesReadAsTable bytes.now result }
+    pub fn read(alloc: Global, bytes: &[u8]) -> Result<Table, TableFault>
+        ensures table { ¬ (result ≡ Err TableFault.OutOfMemory) → BytesReadAsTable bytes.now result }
         // That a text is too long is told without memory. Any other fault may be hidden: the text
         // is read as TOML, which takes memory, before the first of them is looked for. In a table
         // that was read, out of memory hides only a key that isn't known, whose bytes are copied.
-        ensures memory_last { result ≡ Err ConfigFault.OutOfMemory → length bytes.now ≤ 1048576 }
+        ensures memory_last { result ≡ Err TableFault.OutOfMemory → length bytes.now ≤ 1048576 }
     {
         config_reading::read(alloc, bytes)
     }
@@ -124,9 +124,9 @@ impl Config {
                 if self.refuses_loops(line) && via_names_proxy_twice(name, fields.as_slice()) {
                     return Verdict::Looped(line);
                 }
-                Verdict::Allowed(RequestRoute {
+                Verdict::Allowed(RouteOverLine {
                     number: line,
-                    past_store: self.has_session_cookie_of_line(line, fields),
+                    past_store: self.request_has_session_cookie_of_line(line, fields),
                 })
             }
             Verdict::DeniedBy(line) if self.purges_for(line, fields) => Verdict::Purged(line),
@@ -141,7 +141,7 @@ impl Config {
         ensures allowing { VerdictNamesAnOrigin self.now.lines result }
     {
         let method = method.as_str().as_bytes();
-        if is_never_allowed(method) {
+        if method_is_never_allowed(method) {
             return Verdict::NoLine;
         }
         let (host, path) = (target.key.host.as_slice(), target.table_path.as_slice());
@@ -189,7 +189,7 @@ impl Config {
     /// What counts for a request that goes this way: past the store it is what a line without cache says, but that tags
     /// are hidden as over the line.
     #[tactic(auto, unfolding(crate::specs::Matching::policy_of))]
-    pub fn policy(&self, route: RequestRoute) -> Policy
+    pub fn policy(&self, route: RouteOverLine) -> Policy
         ensures { result ≡ policy_of self.now.lines route }
     {
         let policy = self.line_policy(route.number);
@@ -242,16 +242,16 @@ impl Config {
     }
 
     fn purges_for(&self, line: u16, fields: &Fields) -> bool
-        ensures { result ≡ request_purges_over_line self.now.lines line fields.now }
+        ensures { result ≡ line_purges_for_request self.now.lines line fields.now }
     {
         match self.purge_key_at(line) {
-            Some(key) => asks_to_purge(key.as_slice(), fields),
+            Some(key) => asks_to_purge_with_key(key.as_slice(), fields),
             None => false,
         }
     }
 
-    fn has_session_cookie_of_line(&self, line: u16, fields: &Fields) -> bool
-        ensures { result ≡ has_session_cookie_of_line self.now.lines line fields.now }
+    fn request_has_session_cookie_of_line(&self, line: u16, fields: &Fields) -> bool
+        ensures { result ≡ request_has_session_cookie_of_line self.now.lines line fields.now }
     {
         has_cookie_among(self.session_cookies(line), fields.as_slice())
     }
@@ -280,7 +280,7 @@ impl Config {
     }
 
     /// Whether the Via of a request names this proxy, over a line that refuses loops.
-    pub fn came_back(&self, route: RequestRoute, fields: &Fields) -> bool
+    pub fn is_refused_as_loop(&self, route: RouteOverLine, fields: &Fields) -> bool
         ensures { result ≡ request_is_refused_as_loop self.now route fields.now }
     {
         self.refuses_loops(route.number) && via_names_proxy(self.name.as_bytes(), fields.as_slice())
@@ -288,11 +288,11 @@ impl Config {
 
     /// The first line in front of one, both counted from 1, that takes all that this could match,
     /// so that it never decides on a request.
-    pub fn first_line_that_covers(&self, line: u16) -> Option<u16>
-        ensures { result ≡ first_covering_line self.now.lines line }
+    pub fn first_line_that_covers_line(&self, line: u16) -> Option<u16>
+        ensures { result ≡ first_line_covering_line self.now.lines line }
     {
         let later = line_at(&self.lines, line)?;
-        first_line_covering(&self.lines[..usize::from(line) - 1], later)
+        first_line_covering_later_line(&self.lines[..usize::from(line) - 1], later)
     }
 
     /// The proxy's name, as it stands in Via and Cache-Status.

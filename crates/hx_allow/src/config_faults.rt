@@ -1,7 +1,7 @@
 //! Why an operator's table is refused.
 ghost use Rattle.std.specs.Prelude.{◌≡◌};
-ghost use Rattle.hx_allow.specs.declared.config_faults.ConfigFault.TheVariants.{OutOfMemory};
-ghost use Rattle.hx_allow.specs.Keys.{config_fault_number, key_text, key_of_line_option};
+ghost use Rattle.hx_allow.specs.declared.config_faults.TableFault.TheVariants.{OutOfMemory};
+ghost use Rattle.hx_allow.specs.Keys.{table_fault_number, key_text, key_of_line_option};
 
 use hx_fields::Bytes;
 use std::alloc::AllocError;
@@ -94,7 +94,7 @@ impl LineOption {
 /// Why a table is refused, in the order of the faults' numbers. A key that is missing or has a value of
 /// another type has the fault of that key.
 #[derive(Drop)]
-pub enum ConfigFault {
+pub enum TableFault {
     /// The text isn't TOML, or has more than 1,048,576 bytes.
     NotToml,
     /// A key that isn't known, at the top or in a line: of several the least by its bytes.
@@ -128,42 +128,42 @@ pub enum ConfigFault {
     StarInPath(u16),
 }
 
-impl ConfigFault {
+impl TableFault {
     /// The fault's number, 1 to 14.
     pub fn number(&self) -> u8
-        ensures { result ≡ config_fault_number self.now }
+        ensures { result ≡ table_fault_number self.now }
     {
         match self {
-            ConfigFault::NotToml => 1,
-            ConfigFault::UnknownKey(_) => 2,
-            ConfigFault::BadName => 3,
-            ConfigFault::BadNumber(_) => 4,
-            ConfigFault::BadHost(_) => 5,
-            ConfigFault::BadMethod(_) => 6,
-            ConfigFault::BadPath(_) => 7,
-            ConfigFault::BadOrigin(_) => 8,
-            ConfigFault::NoLines => 9,
-            ConfigFault::OutOfMemory => 10,
-            ConfigFault::BadCache(_) => 11,
-            ConfigFault::BadWord(_, _) => 12,
-            ConfigFault::MethodInLowerCase(_) => 13,
-            ConfigFault::StarInPath(_) => 14,
+            TableFault::NotToml => 1,
+            TableFault::UnknownKey(_) => 2,
+            TableFault::BadName => 3,
+            TableFault::BadNumber(_) => 4,
+            TableFault::BadHost(_) => 5,
+            TableFault::BadMethod(_) => 6,
+            TableFault::BadPath(_) => 7,
+            TableFault::BadOrigin(_) => 8,
+            TableFault::NoLines => 9,
+            TableFault::OutOfMemory => 10,
+            TableFault::BadCache(_) => 11,
+            TableFault::BadWord(_, _) => 12,
+            TableFault::MethodInLowerCase(_) => 13,
+            TableFault::StarInPath(_) => 14,
         }
     }
 }
 
-impl From<AllocError> for ConfigFault {
+impl From<AllocError> for TableFault {
     ghost from_gives = { λ _ e. e ≡ OutOfMemory };
 
-    fn from(_e: AllocError) -> ConfigFault {
-        ConfigFault::OutOfMemory
+    fn from(_e: AllocError) -> TableFault {
+        TableFault::OutOfMemory
     }
 }
 
 /// A fault of a table as it is found, before anything is copied.
-pub(crate) enum FoundFault<'a> {
+pub(crate) enum BorrowedTableFault<'a> {
     /// This key isn't known.
     UnknownKey(&'a str),
     /// A fault that takes no memory to tell.
-    Other(ConfigFault),
+    Other(TableFault),
 }

@@ -10,14 +10,14 @@ ghost use Rattle.hx_allow.specs.Examples.{loop_refusing_table, session_cookie_ta
 ghost use Rattle.hx_allow.specs.Examples.{target_for_path};
 ghost use Rattle.hx_allow.specs.Keys.{key_of_line_option};
 ghost use Rattle.hx_allow.specs.LineTables.{line_fault, line_of_members};
-ghost use Rattle.hx_allow.specs.Matching.{route_over, policy_of, verdict_of_request};
-ghost use Rattle.hx_allow.specs.declared.config_faults.ConfigFault.TheVariants.{BadWord, UnknownKey};
+ghost use Rattle.hx_allow.specs.Matching.{route_over_line, policy_of, verdict_of_request};
+ghost use Rattle.hx_allow.specs.declared.config_faults.TableFault.TheVariants.{BadWord, UnknownKey};
 ghost use Rattle.hx_allow.specs.declared.config_faults.LineOption.TheVariants.{Cookies, SessionCookies, Errors};
 ghost use Rattle.hx_allow.specs.declared.values.TableVersion.TheVariants.{Three, Four};
 ghost use Rattle.hx_allow.specs.declared.verdicts.Verdict.TheVariants.{Allowed, DeniedBy, Looped};
 
 /// Which lines of Cookie have a cookie of these names, among them the example of RFC 6265, section 3.1.
-pub fn worked_lines_of_cookie()
+pub fn worked_cookie_field_lines()
     ensures first_of_the_rfc { line_has_cookie_among (codes "SID" ∷ []) (codes "SID=31d4d96e407aad42; lang=en-US") ≡ true }
     ensures second_of_the_rfc { line_has_cookie_among (codes "lang" ∷ []) (codes "SID=31d4d96e407aad42; lang=en-US") ≡ true }
     ensures another { line_has_cookie_among (codes "sid" ∷ []) (codes "SID=31d4d96e407aad42; lang=en-US") ≡ false }
@@ -44,19 +44,19 @@ pub fn worked_requests_past_the_store()
         (line (codes "Cookie") (codes "_ga=1") ∷ line (codes "cookie") (codes "login=2") ∷ [])
         ≡ Allowed (record { number = 1; past_store = true }) }
     ensures with_another { verdict_of_request session_cookie_table (codes "GET") (target_for_path (codes "x") (codes "/shop"))
-        (line (codes "Cookie") (codes "_ga=1; Sid=2") ∷ []) ≡ Allowed (route_over 1) }
+        (line (codes "Cookie") (codes "_ga=1; Sid=2") ∷ []) ≡ Allowed (route_over_line 1) }
     ensures with_none { verdict_of_request session_cookie_table (codes "GET") (target_for_path (codes "x") (codes "/shop"))
-        (line (codes "Set-Cookie") (codes "sid=2") ∷ []) ≡ Allowed (route_over 1) }
+        (line (codes "Set-Cookie") (codes "sid=2") ∷ []) ≡ Allowed (route_over_line 1) }
     ensures over_the_second_line { verdict_of_request session_cookie_table (codes "GET")
         (target_for_path (codes "x") (codes "/"))
-        (line (codes "Cookie") (codes "sid=2") ∷ []) ≡ Allowed (route_over 2) }
+        (line (codes "Cookie") (codes "sid=2") ∷ []) ≡ Allowed (route_over_line 2) }
     ensures a_loop { verdict_of_request session_cookie_table (codes "GET") (target_for_path (codes "x") (codes "/shop"))
         (line (codes "Cookie") (codes "sid=2") ∷ line (codes "Via") (codes "1.1 edge, 1.1 edge") ∷ []) ≡ Looped 1 }
     ensures denied { verdict_of_request loop_refusing_table (codes "GET") (target_for_path (codes "x") (codes "/p"))
         (line (codes "Cookie") (codes "sid=2") ∷ []) ≡ DeniedBy 1 }
     ensures past_the_store { policy_of session_cookie_table.lines (record { number = 1; past_store = true })
         ≡ plain false }
-    ensures by_the_store { policy_of session_cookie_table.lines (route_over 1) ≡ plain true }
+    ensures by_the_store { policy_of session_cookie_table.lines (route_over_line 1) ≡ plain true }
 {}
 
 /// What may stand there: 1 to 16 tokens, in a line of version 4 that has an origin and its cache on. It is looked at

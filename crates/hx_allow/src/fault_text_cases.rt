@@ -2,11 +2,11 @@
 //! contract is the cases, and its body is empty.
 ghost use Rattle.std.specs.Prelude.{◌≡◌, ℕ, List, codes};
 ghost use Rattle.hx_allow.specs.FaultTexts.{fault_text, requirement_of_fault};
-ghost use Rattle.hx_allow.specs.declared.config_faults.ConfigFault.TheVariants.{NotToml, UnknownKey, BadName};
-ghost use Rattle.hx_allow.specs.declared.config_faults.ConfigFault.TheVariants.{BadNumber};
-ghost use Rattle.hx_allow.specs.declared.config_faults.ConfigFault.TheVariants.{BadHost, BadMethod, BadPath, BadOrigin};
-ghost use Rattle.hx_allow.specs.declared.config_faults.ConfigFault.TheVariants.{NoLines, OutOfMemory, BadCache};
-ghost use Rattle.hx_allow.specs.declared.config_faults.ConfigFault.TheVariants.{BadWord, MethodInLowerCase, StarInPath};
+ghost use Rattle.hx_allow.specs.declared.config_faults.TableFault.TheVariants.{NotToml, UnknownKey, BadName};
+ghost use Rattle.hx_allow.specs.declared.config_faults.TableFault.TheVariants.{BadNumber};
+ghost use Rattle.hx_allow.specs.declared.config_faults.TableFault.TheVariants.{BadHost, BadMethod, BadPath, BadOrigin};
+ghost use Rattle.hx_allow.specs.declared.config_faults.TableFault.TheVariants.{NoLines, OutOfMemory, BadCache};
+ghost use Rattle.hx_allow.specs.declared.config_faults.TableFault.TheVariants.{BadWord, MethodInLowerCase, StarInPath};
 ghost use Rattle.hx_allow.specs.declared.config_faults.LineOption.TheVariants.{Lifetime, ErrorLifetime, StaleIfError};
 ghost use Rattle.hx_allow.specs.declared.config_faults.LineOption.TheVariants.{SetCookie, Errors, RequestDirectives};
 ghost use Rattle.hx_allow.specs.declared.config_faults.LineOption.TheVariants.{Wait, Explain, Conditions};

@@ -1,63 +1,63 @@
 //! What is wrong with a table and what may stand there, in words for the operator. No text takes memory.
 ghost use Rattle.std.specs.Prelude.{◌≡◌, None, Some, option_map};
 ghost use Rattle.hx_allow.specs.FaultTexts.{line_number_of_fault, key_row_at_fault, requirement_without_row};
-ghost use Rattle.hx_allow.specs.Rows.{row_of_source};
+ghost use Rattle.hx_allow.specs.Rows.{definition_of_source_row};
 
-use crate::config_faults::ConfigFault;
+use crate::config_faults::TableFault;
 use crate::rows::{
-    KeyDefinition, KeyPlace, LineKey, REQUIREMENT_OF_UNKNOWN_KEY, TopKey, ValueKind,
+    KeyDefinition, KeyPlace, LineKey, TopKey, UNKNOWN_KEY_REQUIREMENT_TEXT, ValueKind,
 };
 use std::fmt;
 use std::fmt::Formatter;
 
 /// The line at fault, counted from 1.
-fn line_number_of_fault(fault: &ConfigFault) -> Option<u16>
+fn line_number_of_fault(fault: &TableFault) -> Option<u16>
     ensures { result ≡ line_number_of_fault fault.now }
 {
     match fault {
-        ConfigFault::BadHost(line) => Some(*line),
-        ConfigFault::BadMethod(line) => Some(*line),
-        ConfigFault::BadPath(line) => Some(*line),
-        ConfigFault::BadOrigin(line) => Some(*line),
-        ConfigFault::BadCache(line) => Some(*line),
-        ConfigFault::BadWord(line, _) => Some(*line),
-        ConfigFault::MethodInLowerCase(line) => Some(*line),
-        ConfigFault::StarInPath(line) => Some(*line),
+        TableFault::BadHost(line) => Some(*line),
+        TableFault::BadMethod(line) => Some(*line),
+        TableFault::BadPath(line) => Some(*line),
+        TableFault::BadOrigin(line) => Some(*line),
+        TableFault::BadCache(line) => Some(*line),
+        TableFault::BadWord(line, _) => Some(*line),
+        TableFault::MethodInLowerCase(line) => Some(*line),
+        TableFault::StarInPath(line) => Some(*line),
         _ => None,
     }
 }
 
 /// The row of the key at fault.
-fn key_row_at_fault(fault: &ConfigFault) -> Option<KeyDefinition>
-    ensures { option_map row_of_source result ≡ key_row_at_fault fault.now }
+fn key_row_at_fault(fault: &TableFault) -> Option<KeyDefinition>
+    ensures { option_map definition_of_source_row result ≡ key_row_at_fault fault.now }
 {
     match fault {
-        ConfigFault::BadName => Some(TopKey::Name.row()),
-        ConfigFault::BadNumber(number) => Some(number.row()),
-        ConfigFault::BadHost(_) => Some(LineKey::Host.row()),
-        ConfigFault::BadMethod(_) => Some(LineKey::Methods.row()),
-        ConfigFault::BadPath(_) => Some(LineKey::Path.row()),
-        ConfigFault::BadOrigin(_) => Some(LineKey::Origin.row()),
-        ConfigFault::BadCache(_) => Some(LineKey::Cache.row()),
-        ConfigFault::BadWord(_, word) => Some(word.row()),
+        TableFault::BadName => Some(TopKey::Name.row()),
+        TableFault::BadNumber(number) => Some(number.row()),
+        TableFault::BadHost(_) => Some(LineKey::Host.row()),
+        TableFault::BadMethod(_) => Some(LineKey::Methods.row()),
+        TableFault::BadPath(_) => Some(LineKey::Path.row()),
+        TableFault::BadOrigin(_) => Some(LineKey::Origin.row()),
+        TableFault::BadCache(_) => Some(LineKey::Cache.row()),
+        TableFault::BadWord(_, word) => Some(word.row()),
         _ => None,
     }
 }
 
 /// What has to stand there, of a fault without a row.
-fn requirement_without_row(fault: &ConfigFault) -> &'static str
+fn requirement_without_row(fault: &TableFault) -> &'static str
     ensures { result.now ≡ requirement_without_row fault.now }
 {
     match fault {
-        ConfigFault::NotToml =>
+        TableFault::NotToml =>
             "the table is no TOML, has a key twice, or has more than 1048576 bytes; look for a quote or bracket that is missing",
-        ConfigFault::UnknownKey(_) => REQUIREMENT_OF_UNKNOWN_KEY,
-        ConfigFault::NoLines =>
+        TableFault::UnknownKey(_) => UNKNOWN_KEY_REQUIREMENT_TEXT,
+        TableFault::NoLines =>
             "a table has 1 to 256 lines, or 1 to 4096 in version 4, each of which begins with [[line]]",
-        ConfigFault::OutOfMemory => "no memory is left for the table",
-        ConfigFault::MethodInLowerCase(_) =>
+        TableFault::OutOfMemory => "no memory is left for the table",
+        TableFault::MethodInLowerCase(_) =>
             "a method has a letter in lower case; methods compare with their case, so write GET and not get",
-        ConfigFault::StarInPath(_) =>
+        TableFault::StarInPath(_) =>
             "path has a *, which is that character and no pattern; leave it out: a path matches itself and all below it",
         _ => "",
     }
@@ -66,9 +66,9 @@ fn requirement_without_row(fault: &ConfigFault) -> &'static str
 impl fmt::Display for ValueKind {
     ghost use Rattle.std.specs.Prelude.{Some};
     ghost use Rattle.hx_allow.specs.FaultTexts.{requirement_of_kind};
-    ghost use Rattle.hx_allow.specs.Rows.{kind_of_source};
+    ghost use Rattle.hx_allow.specs.Rows.{value_kind_of_source_kind};
 
-    ghost output = { λ kind. Some (requirement_of_kind (kind_of_source kind)) };
+    ghost output = { λ kind. Some (requirement_of_kind (value_kind_of_source_kind kind)) };
 
     fn fmt<W: fmt::Write>(&self, f: &mut Formatter<W>) -> fmt::Result {
         match self {
@@ -142,9 +142,9 @@ impl fmt::Display for KeyPlace {
 impl fmt::Display for KeyDefinition {
     ghost use Rattle.std.specs.Prelude.{Some};
     ghost use Rattle.hx_allow.specs.FaultTexts.{requirement_of_row};
-    ghost use Rattle.hx_allow.specs.Rows.{row_of_source};
+    ghost use Rattle.hx_allow.specs.Rows.{definition_of_source_row};
 
-    ghost output = { λ row. Some (requirement_of_row (row_of_source row)) };
+    ghost output = { λ row. Some (requirement_of_row (definition_of_source_row row)) };
 
     fn fmt<W: fmt::Write>(&self, f: &mut Formatter<W>) -> fmt::Result {
         write!(f, "{} has to {}{}", self.key, self.kind, self.place)
@@ -153,7 +153,7 @@ impl fmt::Display for KeyDefinition {
 
 /// What has to stand there, as text.
 #[derive(Drop)]
-struct Words<'a>(&'a ConfigFault);
+struct Words<'a>(&'a TableFault);
 
 impl fmt::Display for Words<'_> {
     ghost use Rattle.std.specs.Prelude.{Some};
@@ -169,7 +169,7 @@ impl fmt::Display for Words<'_> {
     }
 }
 
-impl fmt::Display for ConfigFault {
+impl fmt::Display for TableFault {
     ghost use Rattle.std.specs.Prelude.{Some};
     ghost use Rattle.hx_allow.specs.FaultTexts.{fault_text};
 

@@ -5,7 +5,7 @@
 //! of its dots where that is no longer than the longest host below which a line names hosts, so a host
 //! of many labels costs no more than that length.
 ghost use Rattle.std.specs.Prelude.{◌≡◌, ◌≤◌, ◌∷◌, [], length, IfOk, OnOk};
-ghost use Rattle.hx_allow.specs.Index.{line_numbers_for, IsHostIndexOfLines, LineHostsAreIndexed};
+ghost use Rattle.hx_allow.specs.Index.{line_numbers_for_host, IsHostIndexOfLines, LineHostsAreIndexed};
 ghost use Rattle.hx_allow.specs.Index.{LineNumberIsIndexedForHost};
 
 use crate::line_hosts::LineHost;
@@ -74,7 +74,7 @@ impl HostIndex {
 
     /// The numbers of the lines that name a host, ascending.
     pub(crate) fn naming(&self, host: &[u8]) -> &[u16]
-        ensures { result.now ≡ line_numbers_for self.now.named host.now }
+        ensures { result.now ≡ line_numbers_for_host self.now.named host.now }
     {
         match self.named.get(host) {
             Some(numbers) => numbers.as_slice(),
@@ -83,8 +83,8 @@ impl HostIndex {
     }
 
     /// The numbers of the lines for the hosts below one, ascending.
-    pub(crate) fn for_hosts_below(&self, host: &[u8]) -> &[u16]
-        ensures { result.now ≡ line_numbers_for self.now.below host.now }
+    pub(crate) fn lines_for_hosts_below(&self, host: &[u8]) -> &[u16]
+        ensures { result.now ≡ line_numbers_for_host self.now.below host.now }
     {
         match self.below.get(host) {
             Some(numbers) => numbers.as_slice(),

@@ -10,17 +10,18 @@ ghost use Rattle.hx_target.specs.Judgement.{TargetIsJudged};
 ghost use Rattle.hx_target.specs.Paths.{table_path_of};
 ghost use Rattle.hx_policy.specs.Policies.{plain};
 ghost use Rattle.hx_allow.specs.TableLines.{Line, Table};
-ghost use Rattle.hx_allow.specs.LineTables.{line_fault, line_of_members, first_fault_of_lines, array_of_tables};
-ghost use Rattle.hx_allow.specs.LineWords.{key_has_text, line_caches};
+ghost use Rattle.hx_allow.specs.LineTables.{line_fault, line_of_members, first_fault_of_lines, items_of_tables};
+ghost use Rattle.hx_allow.specs.LineWords.{text_of_key_equals, line_caches};
 ghost use Rattle.hx_allow.specs.LineTables.{line_has_lowercase_method, line_has_path_with_star};
 ghost use Rattle.hx_allow.specs.Matching.{matches_line, verdict_of, deciding_line_number, line_policy, policy_of};
-ghost use Rattle.hx_allow.specs.NeverReached.{first_covering_line};
+ghost use Rattle.hx_allow.specs.NeverReached.{first_line_covering_line};
 ghost use Rattle.hx_allow.specs.Rows.{has_keys_of, word_row};
-ghost use Rattle.hx_allow.specs.Tables.{table_version_of, judge_table, BytesReadAsTable};
+ghost use Rattle.hx_allow.specs.Tables.{table_version_of, config_or_fault_of_table, BytesReadAsTable};
 ghost use Rattle.hx_allow.specs.Versions.{LineHasNoOptionKey, LineHasNoKeyOfVersionFour, LineIsAsInVersionThree};
 ghost use Rattle.hx_allow.specs.Versions.{LineWithCachingKeysCaches};
-ghost use Rattle.hx_allow.specs.Versions.{LineHasNoLowercaseOrStar, LineReadsAsInVersionThree, LineHasOneHostAndPath};
-ghost use Rattle.hx_allow.specs.declared.config_faults.ConfigFault.{ConfigFault as Fault};
+ghost use Rattle.hx_allow.specs.Versions.{LineHasNoLowercaseMethodOrStar, LineReadsAsInVersionThree};
+ghost use Rattle.hx_allow.specs.Versions.{LineHasOneHostAndPath};
+ghost use Rattle.hx_allow.specs.declared.config_faults.TableFault.{TableFault as Fault};
 ghost use Rattle.hx_allow.specs.declared.config_faults.LineOption.{LineOption as Word};
 ghost use Rattle.hx_allow.specs.declared.line_hosts.LineHost.TheVariants.{Every, One as OneHost};
 ghost use Rattle.hx_allow.specs.declared.config_faults.NumberKey.TheVariants.{Version, MaxStore};
@@ -28,18 +29,18 @@ ghost use Rattle.hx_allow.specs.declared.values.TableVersion.{TableVersion};
 ghost use Rattle.hx_allow.specs.declared.values.TableVersion.TheVariants.{One, Two, Three, Four};
 
 pub use crate::cookie_cases::{
-    worked_lines_of_cookie, worked_names_of_session_cookies, worked_requests_past_the_store,
+    worked_cookie_field_lines, worked_names_of_session_cookies, worked_requests_past_the_store,
     worked_session_cookies_of_lines,
 };
 pub use crate::cookie_laws::{
-    a_line_of_cookie_is_read_as_it_is_written, a_request_goes_past_the_store_by_its_cookies,
+    a_cookie_field_is_read_as_it_is_written, a_request_goes_past_the_store_by_its_cookies,
 };
 pub use crate::fault_text_cases::{
     worked_places_of_faults, worked_requirements_at_the_top, worked_requirements_of_line_keys,
     worked_requirements_of_word_keys,
 };
 pub use crate::line_word_cases::{
-    worked_conditions_by_version, worked_cookies_by_version,
+    worked_client_conditions_by_version, worked_cookies_by_config_version,
     worked_cookies_of_responses_by_version, worked_error_lifetimes_by_version,
     worked_keys_of_words, worked_places_of_words, worked_policies_of_words,
     worked_seconds_of_a_line, worked_stale_while_revalidate_by_version,
@@ -50,47 +51,48 @@ pub use crate::list_cases::{
     worked_lists_never_reached, worked_texts_of_hosts, worked_verdicts_of_lines_with_lists,
 };
 pub use crate::list_laws::{
-    a_text_alone_is_a_list_of_one, lists_add_no_new_rule, subdomains_end_with_dot_and_host,
-    worked_hosts_below_others,
+    a_text_alone_is_a_list_of_one, lists_mean_the_same_as_many_lines,
+    subdomains_end_with_dot_and_host, worked_hosts_below_others,
 };
 pub use crate::loop_cases::{
     worked_lines_of_via, worked_loops_of_lines, worked_requests_that_loop,
 };
 pub use crate::loop_laws::{
     a_line_of_via_is_read_as_it_is_written, a_loop_is_refused_where_its_line_refuses,
-    requests_without_loops_are_judged_as_before,
+    only_refused_loops_change_the_verdict,
 };
 pub use crate::purge_cases::{
-    worked_purge_keys, worked_purging_lines, worked_requests_that_purge, worked_requests_with_keys,
-    worked_scopes,
+    worked_purge_keys, worked_purging_lines, worked_requests_that_purge,
+    worked_requests_with_purge_keys, worked_scopes,
 };
 pub use crate::purge_laws::{
-    a_line_with_a_key_purges, a_request_purges_where_it_shows_the_key_of_its_line,
+    a_line_with_purge_key_has_no_origin, a_request_purges_where_it_shows_the_key_of_its_line,
     purge_scopes_cover_what_they_name,
 };
 pub use crate::table_cases::{
-    a_table_has_1_to_256_lines, worked_cache_of_a_line, worked_faults_of_store_bound,
+    a_table_has_1_to_256_or_4096_lines, worked_cache_of_a_line, worked_faults_of_store_bound,
     worked_faults_of_texts, worked_faults_that_allocate, worked_lines,
     worked_missing_keys_of_a_line, worked_order_of_line_faults, worked_order_of_lines,
-    worked_order_of_table_faults, worked_spellings_of_lines, worked_store_bounds, worked_tables,
-    worked_versions_of_tables,
+    worked_order_of_table_faults, worked_refused_spellings_of_lines, worked_store_bounds,
+    worked_tables, worked_versions_of_tables,
 };
 pub use crate::table_laws::{
     a_table_is_toml_within_the_limit, lines_behind_or_of_other_hosts_change_nothing,
     the_least_unknown_key_is_named,
 };
-pub use crate::timeout_cases::{worked_timeouts_of_line_numbers, worked_timeouts_of_lines};
+pub use crate::timeout_cases::{worked_origin_timeouts_of_lines, worked_timeouts_of_line_numbers};
 pub use crate::vary_cases::{worked_names_of_vary, worked_vary_of_lines};
 pub use crate::wait_cases::{worked_waits_of_line_numbers, worked_waits_of_lines};
 pub use crate::worked_cases::{
     a_line_has_1_to_32_methods, worked_addresses_of_origins, worked_addresses_that_are_read,
-    worked_bounds_of_top_numbers, worked_config_fault_numbers, worked_first_line_denies,
-    worked_hosts_of_lines, worked_hosts_that_match, worked_keys_at_the_top, worked_keys_of_a_line,
-    worked_keys_of_numbers, worked_lines_never_reached, worked_lines_with_cache,
+    worked_bounds_of_config_numbers, worked_first_line_denies, worked_hosts_of_lines,
+    worked_hosts_that_match, worked_keys_at_the_top, worked_keys_of_a_line, worked_keys_of_numbers,
+    worked_last_bytes_of_paths, worked_lines_never_reached, worked_lines_with_cache,
     worked_methods_of_lines, worked_methods_that_match, worked_names_of_proxies,
     worked_numbers_in_addresses, worked_numbers_within_bounds, worked_origins_of_line_numbers,
-    worked_origins_of_lines, worked_paths_of_lines, worked_paths_that_match, worked_tails_of_paths,
-    worked_texts_of_keys, worked_verdicts_of_indexed_lines, worked_verdicts_of_several_lines,
+    worked_origins_of_lines, worked_paths_of_lines, worked_paths_that_match,
+    worked_table_fault_numbers, worked_texts_of_config_keys, worked_verdicts_of_indexed_lines,
+    worked_verdicts_of_several_lines,
 };
 use hx_target::laws::normalising_a_path_is_idempotent;
 
@@ -110,7 +112,7 @@ pub fn the_first_line_that_matches_decides()
 /// A verdict rests on a target's host and table path alone, for requests that are read too: whatever its port, its
 /// query and the spelling of its path. What it is compared with is a table path as well: each path of a line of a
 /// table that is read is its own table path.
-pub fn one_verdict_for_each_table_path()
+pub fn verdict_rests_on_host_and_table_path()
     ensures alike { (lines : List Line) (method : List ℕ) (a b : Target) → a.key.host ≡ b.key.host
         → a.table_path ≡ b.table_path → verdict_of lines method a ≡ verdict_of lines method b }
     ensures read { (lines : List Line) (method : List ℕ) (target also : List ℕ) (hosts others : List (List ℕ))
@@ -126,9 +128,9 @@ pub fn one_verdict_for_each_table_path()
 /// Where the lines in front have no fault, a fault of a line is told by that line's number, whatever follows.
 pub fn the_first_line_at_fault_is_named()
     ensures { (version : TableVersion) (before : List Members) (members : Members) (after : List Members)
-        (fault : Fault) → first_fault_of_lines version 1 (array_of_tables before) ≡ None → line_fault version
+        (fault : Fault) → first_fault_of_lines version 1 (items_of_tables before) ≡ None → line_fault version
         (1 + length before) members
-        ≡ Some fault → first_fault_of_lines version 1 (array_of_tables (before ++ members ∷ after)) ≡ Some fault }
+        ≡ Some fault → first_fault_of_lines version 1 (items_of_tables (before ++ members ∷ after)) ≡ Some fault }
 {}
 
 /// A table of the first version is never refused for `cache`, and each of its lines is cached,
@@ -136,14 +138,14 @@ pub fn the_first_line_at_fault_is_named()
 /// all, but that the fourth refuses some spellings, and reads lists and `*.` and a host.
 pub fn version_one_reads_as_before()
     ensures never { (t : Members) (line : ℕ) → table_version_of t ≡ One
-        → ¬ (judge_table t ≡ Err (Fault.BadCache line)) }
-    ensures cached { (t : Members) (table : Table) → table_version_of t ≡ One → judge_table t ≡ Ok table
+        → ¬ (config_or_fault_of_table t ≡ Err (Fault.BadCache line)) }
+    ensures cached { (t : Members) (table : Table) → table_version_of t ≡ One → config_or_fault_of_table t ≡ Ok table
         → All (λ (line : Line). line.policy ≡ plain true) table.lines }
     ensures alike { (version : TableVersion) (n : ℕ) (members : Members) → has_keys_of version Four ≡ false
         → get_member (codes "cache") members ≡ None → LineHasNoOptionKey members
         → line_fault version n members ≡ line_fault One n members }
     ensures alike_in_four { (n : ℕ) (members : Members) → get_member (codes "cache") members ≡ None
-        → LineHasNoOptionKey members → LineHasNoLowercaseOrStar members → LineReadsAsInVersionThree members
+        → LineHasNoOptionKey members → LineHasNoLowercaseMethodOrStar members → LineReadsAsInVersionThree members
         → line_fault Four n members ≡ line_fault One n members }
 {}
 
@@ -151,8 +153,9 @@ pub fn version_one_reads_as_before()
 /// lines has one. A line without them is read alike in the last two.
 pub fn version_two_reads_as_before()
     ensures never { (t : Members) (line : ℕ) (word : Word) → has_keys_of (table_version_of t) Three ≡ false
-        → ¬ (judge_table t ≡ Err (Fault.BadWord line word)) }
-    ensures plain { (t : Members) (table : Table) → has_keys_of (table_version_of t) Three ≡ false → judge_table t
+        → ¬ (config_or_fault_of_table t ≡ Err (Fault.BadWord line word)) }
+    ensures plain { (t : Members) (table : Table) → has_keys_of (table_version_of t) Three ≡ false
+        → config_or_fault_of_table t
         ≡ Ok table
         → All (λ (line : Line). line.policy ≡ plain line.policy.caches) table.lines }
     ensures alike { (n : ℕ) (members : Members) → LineHasNoOptionKey members
@@ -170,23 +173,25 @@ pub fn version_two_reads_as_before()
 /// in the fourth; what the third reads has none of the last four.
 pub fn version_three_reads_as_before()
     ensures never { (t : Members) → has_keys_of (table_version_of t) Four ≡ false
-        → ¬ (judge_table t ≡ Err (Fault.BadNumber MaxStore)) }
+        → ¬ (config_or_fault_of_table t ≡ Err (Fault.BadNumber MaxStore)) }
     ensures unbounded { (t : Members) (table : Table) → has_keys_of (table_version_of t) Four ≡ false
-        → judge_table t ≡ Ok table → table.max_store ≡ None }
+        → config_or_fault_of_table t ≡ Ok table → table.max_store ≡ None }
     ensures never_for_words { (t : Members) (line : ℕ) (word : Word) → (word_row word).since ≡ Four
-        → has_keys_of (table_version_of t) Four ≡ false → ¬ (judge_table t ≡ Err (Fault.BadWord line word)) }
+        → has_keys_of (table_version_of t) Four ≡ false
+        → ¬ (config_or_fault_of_table t ≡ Err (Fault.BadWord line word)) }
     ensures words { (t : Members) (table : Table) → has_keys_of (table_version_of t) Four ≡ false
-        → judge_table t ≡ Ok table → All LineIsAsInVersionThree table.lines }
+        → config_or_fault_of_table t ≡ Ok table → All LineIsAsInVersionThree table.lines }
     ensures never_for_methods { (t : Members) (line : ℕ) → has_keys_of (table_version_of t) Four ≡ false
-        → ¬ (judge_table t ≡ Err (Fault.MethodInLowerCase line)) }
+        → ¬ (config_or_fault_of_table t ≡ Err (Fault.MethodInLowerCase line)) }
     ensures never_for_stars { (t : Members) (line : ℕ) → has_keys_of (table_version_of t) Four ≡ false
-        → ¬ (judge_table t ≡ Err (Fault.StarInPath line)) }
+        → ¬ (config_or_fault_of_table t ≡ Err (Fault.StarInPath line)) }
     ensures one_host { (t : Members) (table : Table) → has_keys_of (table_version_of t) Four ≡ false
-        → judge_table t ≡ Ok table → All LineHasOneHostAndPath table.lines }
-    ensures alike { (n : ℕ) (members : Members) → LineHasNoKeyOfVersionFour members → LineHasNoLowercaseOrStar members
+        → config_or_fault_of_table t ≡ Ok table → All LineHasOneHostAndPath table.lines }
+    ensures alike { (n : ℕ) (members : Members) → LineHasNoKeyOfVersionFour members
+        → LineHasNoLowercaseMethodOrStar members
         → LineReadsAsInVersionThree members → line_fault Four n members ≡ line_fault Three n members }
     ensures still_read { (n : ℕ) (members : Members) → LineHasNoKeyOfVersionFour members
-        → LineHasNoLowercaseOrStar members
+        → LineHasNoLowercaseMethodOrStar members
         → line_fault Three n members ≡ None → line_fault Four n members ≡ None }
 {}
 
@@ -195,7 +200,7 @@ pub fn version_three_reads_as_before()
 /// method's first.
 pub fn version_four_refuses_lowercase_methods_and_stars()
     ensures refused { (n : ℕ) (members : Members) → line_fault Four n members ≡ None
-        → LineHasNoLowercaseOrStar members }
+        → LineHasNoLowercaseMethodOrStar members }
     ensures method { (n : ℕ) (members : Members) → LineHasNoKeyOfVersionFour members → line_fault Three n members ≡ None
         → line_has_lowercase_method members ≡ true → line_fault Four n members ≡ Some (Fault.MethodInLowerCase n) }
     ensures star { (n : ℕ) (members : Members) → LineHasNoKeyOfVersionFour members → line_fault Three n members ≡ None
@@ -209,7 +214,7 @@ pub fn version_four_refuses_lowercase_methods_and_stars()
 pub fn version_four_forwards_conditions_only_if_told()
     ensures { (members : Members) → line_caches members ≡ true
         → (line_of_members Four members).policy.forwards_conditions
-        ≡ key_has_text (codes "conditions") (codes "forwarded") members }
+        ≡ text_of_key_equals (codes "conditions") (codes "forwarded") members }
 {}
 
 /// Over a line of version 4 that has an origin and its cache on the response to a request with a cookie is given the
@@ -217,7 +222,7 @@ pub fn version_four_forwards_conditions_only_if_told()
 #[tactic(auto, unfolding(crate::specs::LineTables::line_of_members))]
 pub fn version_four_shares_pages_of_cookies_only_if_told()
     ensures { (members : Members) → line_caches members ≡ true
-        → (line_of_members Four members).policy.gives_to_cookies ≡ key_has_text (codes "cookies") (codes "shared") members }
+        → (line_of_members Four members).policy.gives_to_cookies ≡ text_of_key_equals (codes "cookies") (codes "shared") members }
 {}
 
 /// Over a line of version 4 that has an origin and its cache on a response with Set-Cookie is given the line's
@@ -227,9 +232,9 @@ pub fn version_four_shares_pages_of_cookies_only_if_told()
 pub fn version_four_gives_set_cookie_lifetime_only_if_told()
     ensures lifetimes { (members : Members) → line_caches members ≡ true
         → (line_of_members Four members).policy.gives_to_set_cookie ≡ is_some (get_member (codes "set-cookie") members) }
-    ensures removed { (members : Members) → (line_of_members Four members).policy.removes_cookies
-        ≡ key_has_text (codes "set-cookie") (codes "removed") members }
-    ensures before { (members : Members) → (line_of_members Three members).policy.removes_cookies ≡ false }
+    ensures removed { (members : Members) → (line_of_members Four members).policy.removes_set_cookie
+        ≡ text_of_key_equals (codes "set-cookie") (codes "removed") members }
+    ensures before { (members : Members) → (line_of_members Three members).policy.removes_set_cookie ≡ false }
 {}
 
 /// Each line of version 4 hides the tags of answers, also on the way past the store, and no line of an earlier version
@@ -245,25 +250,27 @@ pub fn tags_are_hidden_in_version_four()
 /// Where a table bounds the bytes of its store, the bound is in its range, and no content that may be
 /// stored is above it.
 pub fn store_bound_is_no_less_than_content_bound()
-    ensures { (t : Members) (table : Table) → judge_table t ≡ Ok table
+    ensures { (t : Members) (table : Table) → config_or_fault_of_table t ≡ Ok table
         → IfSome table.max_store (λ most. (65536 ≤ most) × (most ≤ 2 ^ 40) × (table.max_stored ≤ most)) }
 {}
 
 /// A line that has a word on caching of the third version or the fourth allows, and has its cache on.
 pub fn caching_keys_need_origin_and_cache()
-    ensures { (t : Members) (table : Table) → judge_table t ≡ Ok table → All LineWithCachingKeysCaches table.lines }
+    ensures { (t : Members) (table : Table) → config_or_fault_of_table t ≡ Ok table
+        → All LineWithCachingKeysCaches table.lines }
 {}
 
 /// A line that one in front of it takes never decides on a request.
 pub fn a_covered_line_never_decides()
-    ensures { (lines : List Line) (method : List ℕ) (target : Target) (n k : ℕ) → first_covering_line lines n ≡ Some k
+    ensures { (lines : List Line) (method : List ℕ) (target : Target) (n k : ℕ) → first_line_covering_line lines n
+        ≡ Some k
         → deciding_line_number (verdict_of lines method target) ≡ Some n → ⊥ }
 {}
 
 /// The table of the first example.
-#[tactic(auto, unfolding(toml::proofs::OnLiterals::toml_on_literals, crate::specs::Tables::judge_table, crate::specs::Tables::table_fault, crate::specs::Tables::table_of_members, crate::specs::Tables::is_name, crate::specs::LineTables::line_fault, crate::specs::LineTables::line_of_members, crate::specs::LineTables::is_line_host, crate::specs::LineTables::is_line_method, crate::specs::LineTables::is_line_path, crate::specs::Addresses::address_of, hx_target::specs::Hosts::number_of_few_digits, hx_target::specs::Paths::has_dot_segment))]
+#[tactic(auto, unfolding(toml::proofs::OnLiterals::toml_on_literals, crate::specs::Tables::config_or_fault_of_table, crate::specs::Tables::table_fault, crate::specs::Tables::table_of_members, crate::specs::Tables::is_name, crate::specs::LineTables::line_fault, crate::specs::LineTables::line_of_members, crate::specs::LineTables::is_line_host, crate::specs::LineTables::is_line_method, crate::specs::LineTables::is_line_path, crate::specs::Addresses::address_of, hx_target::specs::Hosts::number_of_few_digits, hx_target::specs::Paths::has_dot_segment))]
 pub fn worked_whole_table()
-    ensures { option_map judge_table (parse_document (codes "version = 1\nname = \"edge\"\ncapacity = 2\nmax_body = 1000\nmax_stored = 1000\n\n[[line]]\nhost = \"*\"\nmethods = [\"GET\", \"HEAD\", \"POST\"]\npath = \"/\"\norigin = \"127.0.0.1:8081\"\n")) ≡ Some (Ok (record {
+    ensures { option_map config_or_fault_of_table (parse_document (codes "version = 1\nname = \"edge\"\ncapacity = 2\nmax_body = 1000\nmax_stored = 1000\n\n[[line]]\nhost = \"*\"\nmethods = [\"GET\", \"HEAD\", \"POST\"]\npath = \"/\"\norigin = \"127.0.0.1:8081\"\n")) ≡ Some (Ok (record {
       name = codes "edge";
       capacity = 2;
       max_body = 1000;
@@ -286,9 +293,9 @@ pub fn worked_whole_table()
 {}
 
 /// A table of two lines, in their order: the first denies a path, the second allows what is left.
-#[tactic(auto, unfolding(toml::proofs::OnLiterals::toml_on_literals, crate::specs::Tables::judge_table, crate::specs::Tables::table_fault, crate::specs::Tables::table_of_members, crate::specs::Tables::is_name, crate::specs::LineTables::line_fault, crate::specs::LineTables::line_of_members, crate::specs::LineTables::is_line_host, crate::specs::LineTables::is_line_method, crate::specs::LineTables::is_line_path, crate::specs::Addresses::address_of, hx_target::specs::Hosts::is_host, hx_target::specs::Hosts::number_of_few_digits, hx_target::specs::Paths::has_dot_segment))]
+#[tactic(auto, unfolding(toml::proofs::OnLiterals::toml_on_literals, crate::specs::Tables::config_or_fault_of_table, crate::specs::Tables::table_fault, crate::specs::Tables::table_of_members, crate::specs::Tables::is_name, crate::specs::LineTables::line_fault, crate::specs::LineTables::line_of_members, crate::specs::LineTables::is_line_host, crate::specs::LineTables::is_line_method, crate::specs::LineTables::is_line_path, crate::specs::Addresses::address_of, hx_target::specs::Hosts::is_host, hx_target::specs::Hosts::number_of_few_digits, hx_target::specs::Paths::has_dot_segment))]
 pub fn worked_table_of_two_lines()
-    ensures { option_map judge_table (parse_document (codes "version = 1\nname = \"edge\"\ncapacity = 2\nmax_body = 1000\nmax_stored = 1000\n\n[[line]]\nhost = \"*\"\nmethods = [\"*\"]\npath = \"/admin\"\norigin = \"deny\"\n\n[[line]]\nhost = \"x\"\nmethods = [\"GET\"]\npath = \"/\"\norigin = \"127.0.0.1:8081\"\n")) ≡ Some (Ok (record {
+    ensures { option_map config_or_fault_of_table (parse_document (codes "version = 1\nname = \"edge\"\ncapacity = 2\nmax_body = 1000\nmax_stored = 1000\n\n[[line]]\nhost = \"*\"\nmethods = [\"*\"]\npath = \"/admin\"\norigin = \"deny\"\n\n[[line]]\nhost = \"x\"\nmethods = [\"GET\"]\npath = \"/\"\norigin = \"127.0.0.1:8081\"\n")) ≡ Some (Ok (record {
       name = codes "edge";
       capacity = 2;
       max_body = 1000;
@@ -323,15 +330,15 @@ pub fn worked_table_of_two_lines()
 {}
 
 /// A fault of the second line has its number, and the first in the order of looking is named.
-#[tactic(auto, unfolding(toml::proofs::OnLiterals::toml_on_literals, crate::specs::Tables::judge_table, crate::specs::Tables::table_fault, crate::specs::Tables::table_of_members, crate::specs::Tables::is_name, crate::specs::LineTables::line_fault, crate::specs::LineTables::line_of_members, crate::specs::LineTables::is_line_host, crate::specs::LineTables::is_line_method, crate::specs::LineTables::is_line_path, crate::specs::Addresses::address_of, hx_target::specs::Hosts::is_host, hx_target::specs::Hosts::number_of_few_digits, hx_target::specs::Paths::has_dot_segment))]
+#[tactic(auto, unfolding(toml::proofs::OnLiterals::toml_on_literals, crate::specs::Tables::config_or_fault_of_table, crate::specs::Tables::table_fault, crate::specs::Tables::table_of_members, crate::specs::Tables::is_name, crate::specs::LineTables::line_fault, crate::specs::LineTables::line_of_members, crate::specs::LineTables::is_line_host, crate::specs::LineTables::is_line_method, crate::specs::LineTables::is_line_path, crate::specs::Addresses::address_of, hx_target::specs::Hosts::is_host, hx_target::specs::Hosts::number_of_few_digits, hx_target::specs::Paths::has_dot_segment))]
 pub fn worked_fault_of_the_second_line()
-    ensures { option_map judge_table (parse_document (codes "version = 1\nname = \"edge\"\ncapacity = 2\nmax_body = 1000\nmax_stored = 1000\n\n[[line]]\nhost = \"*\"\nmethods = [\"*\"]\npath = \"/admin\"\norigin = \"deny\"\n\n[[line]]\nhost = \"x\"\nmethods = [\"GET\"]\npath = \"/a/\"\norigin = \"allow\"\n")) ≡ Some (Err (Fault.BadPath 2)) }
+    ensures { option_map config_or_fault_of_table (parse_document (codes "version = 1\nname = \"edge\"\ncapacity = 2\nmax_body = 1000\nmax_stored = 1000\n\n[[line]]\nhost = \"*\"\nmethods = [\"*\"]\npath = \"/admin\"\norigin = \"deny\"\n\n[[line]]\nhost = \"x\"\nmethods = [\"GET\"]\npath = \"/a/\"\norigin = \"allow\"\n")) ≡ Some (Err (Fault.BadPath 2)) }
 {}
 
 /// A table of the second version: a line without cache, one that says that it has one, and one that says nothing.
-#[tactic(auto, unfolding(toml::proofs::OnLiterals::toml_on_literals, crate::specs::Tables::judge_table, crate::specs::Tables::table_fault, crate::specs::Tables::table_of_members, crate::specs::Tables::is_name, crate::specs::LineTables::line_fault, crate::specs::LineTables::line_of_members, crate::specs::LineTables::is_line_host, crate::specs::LineTables::is_line_method, crate::specs::LineTables::is_line_path, crate::specs::Addresses::address_of, hx_target::specs::Hosts::is_host, hx_target::specs::Hosts::number_of_few_digits, hx_target::specs::Paths::has_dot_segment))]
+#[tactic(auto, unfolding(toml::proofs::OnLiterals::toml_on_literals, crate::specs::Tables::config_or_fault_of_table, crate::specs::Tables::table_fault, crate::specs::Tables::table_of_members, crate::specs::Tables::is_name, crate::specs::LineTables::line_fault, crate::specs::LineTables::line_of_members, crate::specs::LineTables::is_line_host, crate::specs::LineTables::is_line_method, crate::specs::LineTables::is_line_path, crate::specs::Addresses::address_of, hx_target::specs::Hosts::is_host, hx_target::specs::Hosts::number_of_few_digits, hx_target::specs::Paths::has_dot_segment))]
 pub fn worked_lines_without_cache()
-    ensures { option_map judge_table (parse_document (codes "version = 2\nname = \"edge\"\ncapacity = 2\nmax_body = 1000\nmax_stored = 1000\n\n[[line]]\nhost = \"*\"\nmethods = [\"*\"]\npath = \"/live\"\norigin = \"127.0.0.1:8081\"\ncache = \"off\"\n\n[[line]]\nhost = \"*\"\nmethods = [\"GET\"]\npath = \"/shop\"\norigin = \"127.0.0.1:8081\"\ncache = \"on\"\n\n[[line]]\nhost = \"*\"\nmethods = [\"GET\"]\npath = \"/\"\norigin = \"127.0.0.1:8081\"\n")) ≡ Some (Ok (record {
+    ensures { option_map config_or_fault_of_table (parse_document (codes "version = 2\nname = \"edge\"\ncapacity = 2\nmax_body = 1000\nmax_stored = 1000\n\n[[line]]\nhost = \"*\"\nmethods = [\"*\"]\npath = \"/live\"\norigin = \"127.0.0.1:8081\"\ncache = \"off\"\n\n[[line]]\nhost = \"*\"\nmethods = [\"GET\"]\npath = \"/shop\"\norigin = \"127.0.0.1:8081\"\ncache = \"on\"\n\n[[line]]\nhost = \"*\"\nmethods = [\"GET\"]\npath = \"/\"\norigin = \"127.0.0.1:8081\"\n")) ≡ Some (Ok (record {
       name = codes "edge";
       capacity = 2;
       max_body = 1000;
@@ -379,10 +386,12 @@ pub fn worked_lines_without_cache()
 
 /// The first fault of tables that differ in their version and in the `cache` of their line: a version that isn't known,
 /// the key in a table of the first version, a word that isn't known, and the key in a line that denies.
-#[tactic(auto, unfolding(toml::proofs::OnLiterals::toml_on_literals, crate::specs::Tables::judge_table, crate::specs::Tables::table_fault, crate::specs::Tables::table_of_members, crate::specs::Tables::is_name, crate::specs::LineTables::line_fault, crate::specs::LineTables::line_of_members, crate::specs::LineTables::is_line_host, crate::specs::LineTables::is_line_method, crate::specs::LineTables::is_line_path, crate::specs::Addresses::address_of, hx_target::specs::Hosts::is_host, hx_target::specs::Hosts::number_of_few_digits, hx_target::specs::Paths::has_dot_segment))]
-pub fn table_versions()
-    ensures unknown { option_map judge_table (parse_document (codes "version = 5\nname = \"edge\"\ncapacity = 2\nmax_body = 1000\nmax_stored = 1000\n\n[[line]]\nhost = \"*\"\nmethods = [\"*\"]\npath = \"/live\"\norigin = \"127.0.0.1:8081\"\n")) ≡ Some (Err (Fault.BadNumber Version)) }
-    ensures first { option_map judge_table (parse_document (codes "version = 1\nname = \"edge\"\ncapacity = 2\nmax_body = 1000\nmax_stored = 1000\n\n[[line]]\nhost = \"*\"\nmethods = [\"*\"]\npath = \"/live\"\norigin = \"127.0.0.1:8081\"\ncache = \"off\"\n")) ≡ Some (Err (Fault.UnknownKey (codes "cache"))) }
-    ensures word { option_map judge_table (parse_document (codes "version = 2\nname = \"edge\"\ncapacity = 2\nmax_body = 1000\nmax_stored = 1000\n\n[[line]]\nhost = \"*\"\nmethods = [\"*\"]\npath = \"/live\"\norigin = \"127.0.0.1:8081\"\ncache = \"no\"\n")) ≡ Some (Err (Fault.BadCache 1)) }
-    ensures denying { option_map judge_table (parse_document (codes "version = 2\nname = \"edge\"\ncapacity = 2\nmax_body = 1000\nmax_stored = 1000\n\n[[line]]\nhost = \"*\"\nmethods = [\"*\"]\npath = \"/live\"\norigin = \"deny\"\ncache = \"off\"\n")) ≡ Some (Err (Fault.BadCache 1)) }
+#[tactic(auto, unfolding(toml::proofs::OnLiterals::toml_on_literals, crate::specs::Tables::config_or_fault_of_table, crate::specs::Tables::table_fault, crate::specs::Tables::table_of_members, crate::specs::Tables::is_name, crate::specs::LineTables::line_fault, crate::specs::LineTables::line_of_members, crate::specs::LineTables::is_line_host, crate::specs::LineTables::is_line_method, crate::specs::LineTables::is_line_path, crate::specs::Addresses::address_of, hx_target::specs::Hosts::is_host, hx_target::specs::Hosts::number_of_few_digits, hx_target::specs::Paths::has_dot_segment))]
+pub fn worked_table_versions()
+    ensures unknown { option_map config_or_fault_of_table
+        (parse_document (codes "version = 5\nname = \"edge\"\ncapacity = 2\nmax_body = 1000\nmax_stored = 1000\n\n[[line]]\nhost = \"*\"\nmethods = [\"*\"]\npath = \"/live\"\norigin = \"127.0.0.1:8081\"\n")) ≡ Some (Err (Fault.BadNumber Version)) }
+    ensures first { option_map config_or_fault_of_table
+        (parse_document (codes "version = 1\nname = \"edge\"\ncapacity = 2\nmax_body = 1000\nmax_stored = 1000\n\n[[line]]\nhost = \"*\"\nmethods = [\"*\"]\npath = \"/live\"\norigin = \"127.0.0.1:8081\"\ncache = \"off\"\n")) ≡ Some (Err (Fault.UnknownKey (codes "cache"))) }
+    ensures word { option_map config_or_fault_of_table (parse_document (codes "version = 2\nname = \"edge\"\ncapacity = 2\nmax_body = 1000\nmax_stored = 1000\n\n[[line]]\nhost = \"*\"\nmethods = [\"*\"]\npath = \"/live\"\norigin = \"127.0.0.1:8081\"\ncache = \"no\"\n")) ≡ Some (Err (Fault.BadCache 1)) }
+    ensures denying { option_map config_or_fault_of_table (parse_document (codes "version = 2\nname = \"edge\"\ncapacity = 2\nmax_body = 1000\nmax_stored = 1000\n\n[[line]]\nhost = \"*\"\nmethods = [\"*\"]\npath = \"/live\"\norigin = \"deny\"\ncache = \"off\"\n")) ≡ Some (Err (Fault.BadCache 1)) }
 {}

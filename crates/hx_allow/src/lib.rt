@@ -1,6 +1,6 @@
 //! The operator's table: which requests go to which origin, and the limits of the store.
 //!
-//! `Config::read` takes a TOML text or names its first fault; `judge` names the first line that matches a
+//! `Table::read` takes a TOML text or names its first fault; `judge` names the first line that matches a
 //! request. What a table is and when a line matches is in `specs/`.
 #![tactic(auto)]
 
@@ -50,10 +50,10 @@ mod via;
 mod wait_cases;
 mod worked_cases;
 
-pub use config::Config;
-pub use config_faults::{ConfigFault, LineOption, NumberKey};
+pub use config::Table;
+pub use config_faults::{LineOption, NumberKey, TableFault};
 pub use limits::{MOST_LINES, MOST_TABLE_BYTES};
-pub use purge_modes::{PurgeMode, purge_mode_or_remove};
-pub use purges::{PurgeScope, purge_scope_or_target};
+pub use purge_modes::{PurgeMode, request_purge_mode_or_remove};
+pub use purges::{PurgeScope, purge_scope_of_request};
 pub use tags::{purge_tag_or_none, response_names_tag};
-pub use verdicts::{RequestRoute, Verdict};
+pub use verdicts::{RouteOverLine, Verdict};

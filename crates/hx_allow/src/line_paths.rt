@@ -3,7 +3,7 @@ ghost use Rattle.std.specs.Prelude.{◌≡◌, IfOk};
 ghost use Rattle.hx_target.specs.Paths.{table_path_of};
 ghost use Rattle.hx_allow.specs.Matching.{is_below_path, matches_path};
 
-use crate::path_tails::PathTail;
+use crate::path_tails::PathLengthAndLastByte;
 use hx_fields::Bytes;
 use hx_target::table_path;
 use std::alloc::{AllocError, Global};
@@ -14,7 +14,7 @@ use std::marker::Model;
 pub struct LinePath {
     text: Bytes,
     /// That of `text`.
-    tail: PathTail,
+    tail: PathLengthAndLastByte,
 }
 
 impl Model for LinePath {
@@ -22,11 +22,11 @@ impl Model for LinePath {
 
     ghost Value = { List ℕ };
 
-    ghost use Rattle.hx_allow.specs.PathTails.{path_tail_of};
+    ghost use Rattle.hx_allow.specs.PathTails.{path_length_and_end_of};
 
     ghost view = { λ p. p.text };
 
-    ghost invariant = { λ p. p.tail ≡ path_tail_of p.text };
+    ghost invariant = { λ p. p.tail ≡ path_length_and_end_of p.text };
 }
 
 impl LinePath {
@@ -36,7 +36,7 @@ impl LinePath {
     {
         let text = table_path(alloc, text)?;
         Ok(LinePath {
-            tail: PathTail::of(text.as_slice()),
+            tail: PathLengthAndLastByte::of(text.as_slice()),
             text,
         })
     }

@@ -6,36 +6,38 @@ ghost use Rattle.hx_target.specs.Paths.{table_path_of};
 ghost use Rattle.std.specs.List.{list_any, list_all};
 ghost use Rattle.std.specs.Char.{is_ascii_uppercase, is_ascii_lowercase};
 ghost use Rattle.toml.specs.View.{table_view, array_view, items_view, view};
-ghost use Rattle.hx_allow.specs.Addresses.{address_text};
+ghost use Rattle.hx_allow.specs.Addresses.{text_if_address};
 ghost use Rattle.hx_allow.specs.LineHosts.{line_host_of};
 ghost use Rattle.hx_allow.specs.Values.{is_some_and, items_of_key, texts_of_key, texts_of_items, number_between};
-ghost use Rattle.hx_allow.specs.Values.{all_items};
-ghost use Rattle.hx_allow.specs.LineTables.{is_host_in_lower_case, is_host_wildcard_text, is_line_host, is_line_method};
+ghost use Rattle.hx_allow.specs.Values.{all_items_pass};
+ghost use Rattle.hx_allow.specs.LineTables.{is_host_in_lower_case, is_subdomain_wildcard_text, is_line_host};
+ghost use Rattle.hx_allow.specs.LineTables.{is_line_method};
 ghost use Rattle.hx_allow.specs.LineTables.{is_token_but_not_star};
-ghost use Rattle.hx_allow.specs.LineTables.{is_text_of, most_list_texts, are_texts_of_kind, is_text_or_list_of_kind};
+ghost use Rattle.hx_allow.specs.LineTables.{is_text_of_value_kind, most_list_texts, are_texts_of_kind};
+ghost use Rattle.hx_allow.specs.LineTables.{is_text_or_list_of_kind};
 ghost use Rattle.hx_allow.specs.LineTables.{is_path_byte};
-ghost use Rattle.hx_allow.specs.LineTables.{does_not_end_with_slash};
+ghost use Rattle.hx_allow.specs.LineTables.{is_root_or_ends_without_slash};
 ghost use Rattle.hx_allow.specs.LineTables.{is_line_path, is_line_origin, value_is_of_kind, value_is_good_for_key_row};
 ghost use Rattle.hx_allow.specs.LineTables.{first_bad_key};
-ghost use Rattle.hx_allow.specs.Rows.{kind_of_source, row_of_source};
+ghost use Rattle.hx_allow.specs.Rows.{value_kind_of_source_kind, definition_of_source_row};
 ghost use Rattle.hx_allow.specs.LineTables.{line_fault, line_of_members, first_fault_of_lines, lines_of_tables};
 ghost use Rattle.hx_allow.specs.LineTables.{fault_of_line_if_table};
 ghost use Rattle.hx_allow.specs.LineTables.{has_lowercase_letter, line_has_lowercase_method, text_has_star};
 ghost use Rattle.hx_allow.specs.LineTables.{is_text_with_star};
 ghost use Rattle.hx_allow.specs.LineTables.{line_has_path_with_star};
-ghost use Rattle.hx_allow.specs.LineTables.{spelling_fault};
-ghost use Rattle.hx_allow.specs.LineTables.{config_fault_found};
+ghost use Rattle.hx_allow.specs.LineTables.{lowercase_or_star_fault};
+ghost use Rattle.hx_allow.specs.LineTables.{table_fault_of_borrowed};
 
-use crate::ConfigFault;
+use crate::TableFault;
 use crate::addresses::address_of;
-use crate::config_faults::{FoundFault, LineOption};
+use crate::config_faults::{BorrowedTableFault, LineOption};
 use crate::line_hosts::LineHost;
 use crate::line_paths::LinePath;
 use crate::line_words::{
-    key_has_one_of_two_texts, key_has_text, line_caches, line_has_no_origin, line_purges,
-    origin_timeout_seconds, policy_of_line_table, refuses_loops, wait_timeout_seconds,
+    collapsed_wait_timeout_seconds, key_has_one_of_two_texts, line_caches, line_has_no_origin,
+    line_purges, origin_timeout_seconds, policy_of_line_table, refuses_loops, text_of_key_equals,
 };
-use crate::lines::{Line, is_never_allowed};
+use crate::lines::{Line, method_is_never_allowed};
 use crate::origins::Origin;
 use crate::purges::is_purge_key;
 use crate::rows::{KeyDefinition, KeyPlace, LINE_KEYS, LineKey, ValueKind};
@@ -45,10 +47,10 @@ use crate::values::{
     text_of_key, value_of_key,
 };
 use hx_fields::{Bytes, is_token};
-use hx_target::{has_bad_escape, is_host, names_a_dot_segment};
+use hx_target::{has_bad_escape, is_host, table_path_has_dot_segment};
 use std::alloc::{AllocError, Global};
 use toml::value::Array;
-use toml::{Table, Value};
+use toml::{Table as TomlTable, Value};
 
 fn has_uppercase(text: &[u8]) -> bool
     ensures { result ≡ list_any is_ascii_uppercase text.now }
@@ -63,8 +65,8 @@ fn is_host_in_lower_case(text: &[u8]) -> bool
 }
 
 /// Whether a text is `*.` and a name in lower case that has a letter.
-fn is_host_wildcard_text(text: &[u8]) -> bool
-    ensures { result ≡ is_host_wildcard_text text.now }
+fn is_subdomain_wildcard_text(text: &[u8]) -> bool
+    ensures { result ≡ is_subdomain_wildcard_text text.now }
 {
     match text.strip_prefix(b"*.".as_slice()) {
         Some(host) => {
@@ -81,14 +83,15 @@ fn is_line_host(version: TableVersion, text: &[u8]) -> bool
 {
     text == b"*".as_slice()
         || is_host_in_lower_case(text)
-        || (version.has_keys_of(Four) && is_host_wildcard_text(text))
+        || (version.has_keys_of(Four) && is_subdomain_wildcard_text(text))
 }
 
 #[tactic(auto, unfolding(crate::specs::LineTables::is_line_method))]
 fn is_line_method(text: &[u8]) -> bool
     ensures { result ≡ is_line_method text.now }
 {
-    text == b"*".as_slice() || (is_token(text) && text.len() <= 15 && !is_never_allowed(text))
+    text == b"*".as_slice()
+        || (is_token(text) && text.len() <= 15 && !method_is_never_allowed(text))
 }
 
 fn is_path_byte(b: u8) -> bool
@@ -103,8 +106,8 @@ fn are_path_bytes(text: &[u8]) -> bool
     text.iter().all(|b| is_path_byte(*b))
 }
 
-fn does_not_end_with_slash(text: &[u8]) -> bool
-    ensures { result ≡ does_not_end_with_slash text.now }
+fn is_root_or_ends_without_slash(text: &[u8]) -> bool
+    ensures { result ≡ is_root_or_ends_without_slash text.now }
 {
     text.len() == 1 || text.last() != Some(&b'/')
 }
@@ -114,10 +117,10 @@ fn does_not_end_with_slash(text: &[u8]) -> bool
 fn is_line_path(text: &[u8]) -> bool
     ensures { result ≡ is_line_path text.now }
 {
-    if text.first() != Some(&b'/') || !does_not_end_with_slash(text) {
+    if text.first() != Some(&b'/') || !is_root_or_ends_without_slash(text) {
         return false;
     }
-    are_path_bytes(text) && !has_bad_escape(text) && !names_a_dot_segment(text)
+    are_path_bytes(text) && !has_bad_escape(text) && !table_path_has_dot_segment(text)
 }
 
 fn is_line_origin(version: TableVersion, text: &[u8]) -> bool
@@ -136,8 +139,8 @@ fn is_token_but_not_star(text: &[u8]) -> bool
 }
 
 /// Whether a text is one of a kind, in a table of a version.
-fn is_text_of(version: TableVersion, kind: ValueKind, text: &[u8]) -> bool
-    ensures { result ≡ is_text_of version (kind_of_source kind) text.now }
+fn is_text_of_value_kind(version: TableVersion, kind: ValueKind, text: &[u8]) -> bool
+    ensures { result ≡ is_text_of_value_kind version (value_kind_of_source_kind kind) text.now }
 {
     match kind {
         ValueKind::Host => is_line_host(version, text),
@@ -151,17 +154,18 @@ fn is_text_of(version: TableVersion, kind: ValueKind, text: &[u8]) -> bool
 }
 
 fn is_good_text(version: TableVersion, kind: ValueKind, text: Option<&str>) -> bool
-    ensures { result ≡ is_some_and (is_text_of version (kind_of_source kind)) (option_copied text.entry) }
+    ensures { result
+        ≡ is_some_and (is_text_of_value_kind version (value_kind_of_source_kind kind)) (option_copied text.entry) }
 {
     match text {
-        Some(text) => is_text_of(version, kind, text.as_bytes()),
+        Some(text) => is_text_of_value_kind(version, kind, text.as_bytes()),
         None => false,
     }
 }
 
 /// The most texts of a list.
 fn most_list_texts(kind: ValueKind) -> usize
-    ensures { result ≡ most_list_texts (kind_of_source kind) }
+    ensures { result ≡ most_list_texts (value_kind_of_source_kind kind) }
 {
     match kind {
         ValueKind::Names(most) => usize::from(most),
@@ -171,7 +175,7 @@ fn most_list_texts(kind: ValueKind) -> usize
 
 /// Whether there are 1 to as many texts of a kind as a list has, and nothing else.
 fn are_texts_of_kind(version: TableVersion, kind: ValueKind, values: &[Value]) -> bool
-    ensures { result ≡ are_texts_of_kind version (kind_of_source kind) (items_view values.now) }
+    ensures { result ≡ are_texts_of_kind version (value_kind_of_source_kind kind) (items_view values.now) }
 {
     if !count_is_from_1_to(most_list_texts(kind), values) {
         return false;
@@ -185,7 +189,7 @@ fn are_texts_of_kind(version: TableVersion, kind: ValueKind, values: &[Value]) -
 }
 
 fn is_good_list(version: TableVersion, kind: ValueKind, values: Option<&Array>) -> bool
-    ensures { result ≡ is_some_and (are_texts_of_kind version (kind_of_source kind))
+    ensures { result ≡ is_some_and (are_texts_of_kind version (value_kind_of_source_kind kind))
         (option_map (λ a. array_view a.now) values.entry) }
 {
     match values {
@@ -195,22 +199,27 @@ fn is_good_list(version: TableVersion, kind: ValueKind, values: Option<&Array>) 
 }
 
 /// Whether a key has a text of a kind, or in the fourth version a list of them.
-fn is_text_or_list_of_kind(version: TableVersion, kind: ValueKind, key: &str, table: &Table) -> bool
-    ensures { result ≡ is_text_or_list_of_kind version (kind_of_source kind) key.now (table_view table.now) }
+fn is_text_or_list_of_kind(
+    version: TableVersion,
+    kind: ValueKind,
+    key: &str,
+    table: &TomlTable,
+) -> bool
+    ensures { result ≡ is_text_or_list_of_kind version (value_kind_of_source_kind kind) key.now (table_view table.now) }
 {
     is_good_text(version, kind, text_of_key(table, key))
         || (version.has_keys_of(Four) && is_good_list(version, kind, array_of_key(table, key)))
 }
 
-fn is_number_between(table: &Table, key: &str, low: u32, high: u32) -> bool
+fn is_number_between(table: &TomlTable, key: &str, low: u32, high: u32) -> bool
     ensures { result ≡ is_some (number_between low high (get_member key.now (table_view table.now))) }
 {
     number_between(table, key, u64::from(low), u64::from(high)).is_some()
 }
 
 /// Whether the value of a key is of a kind, of those that stand in a line of a table of a version.
-fn value_is_of_kind(version: TableVersion, kind: ValueKind, key: &str, table: &Table) -> bool
-    ensures { result ≡ value_is_of_kind version (kind_of_source kind) key.now (table_view table.now) }
+fn value_is_of_kind(version: TableVersion, kind: ValueKind, key: &str, table: &TomlTable) -> bool
+    ensures { result ≡ value_is_of_kind version (value_kind_of_source_kind kind) key.now (table_view table.now) }
 {
     match kind {
         ValueKind::Number(low, high) => is_number_between(table, key, low, high),
@@ -218,10 +227,11 @@ fn value_is_of_kind(version: TableVersion, kind: ValueKind, key: &str, table: &T
         ValueKind::OneOf(first, second) => key_has_one_of_two_texts(table, key, first, second),
         ValueKind::OneOfInFour(first, second, third) => {
             key_has_one_of_two_texts(table, key, first, second)
-                || (version.has_keys_of(Four) && key_has_text(table, key, third))
+                || (version.has_keys_of(Four) && text_of_key_equals(table, key, third))
         }
         ValueKind::OneOfThree(first, second, third) => {
-            key_has_one_of_two_texts(table, key, first, second) || key_has_text(table, key, third)
+            key_has_one_of_two_texts(table, key, first, second)
+                || text_of_key_equals(table, key, third)
         }
         ValueKind::Host => is_text_or_list_of_kind(version, kind, key, table),
         ValueKind::Methods => is_good_list(version, kind, array_of_key(table, key)),
@@ -234,8 +244,9 @@ fn value_is_of_kind(version: TableVersion, kind: ValueKind, key: &str, table: &T
 }
 
 /// Whether a row's key has a good value in a line that takes it, or needn't stand and doesn't.
-fn line_key_has_good_value(version: TableVersion, row: KeyDefinition, table: &Table) -> bool
-    ensures { result ≡ value_is_good_for_key_row version row.place (row_of_source row) (table_view table.now) }
+fn line_key_has_good_value(version: TableVersion, row: KeyDefinition, table: &TomlTable) -> bool
+    ensures { result
+        ≡ value_is_good_for_key_row version row.place (definition_of_source_row row) (table_view table.now) }
 {
     match row.place {
         KeyPlace::Needed => value_is_of_kind(version, row.kind, row.key, table),
@@ -258,7 +269,7 @@ fn line_key_has_good_value(version: TableVersion, row: KeyDefinition, table: &Ta
 }
 
 /// The first key that isn't good, in the order in which they are looked at.
-fn first_bad_key(version: TableVersion, table: &Table) -> Option<LineKey>
+fn first_bad_key(version: TableVersion, table: &TomlTable) -> Option<LineKey>
     ensures { result ≡ first_bad_key version (table_view table.now) }
 {
     LINE_KEYS
@@ -289,7 +300,7 @@ fn has_lowercase_letter(value: &Value) -> bool
 }
 
 fn have_no_small_letter(values: &[Value]) -> bool
-    ensures { result ≡ all_items (λ d. not (has_lowercase_letter d)) (items_view values.now) }
+    ensures { result ≡ all_items_pass (λ d. not (has_lowercase_letter d)) (items_view values.now) }
 {
     for value in values {
         if has_lowercase_letter(value) {
@@ -300,7 +311,7 @@ fn have_no_small_letter(values: &[Value]) -> bool
 }
 
 /// Whether a method has a letter in lower case.
-fn line_has_lowercase_method(table: &Table) -> bool
+fn line_has_lowercase_method(table: &TomlTable) -> bool
     ensures { result ≡ line_has_lowercase_method (table_view table.now) }
 {
     match array_of_key(table, "methods") {
@@ -319,7 +330,7 @@ fn is_text_with_star(value: &Value) -> bool
 }
 
 fn have_no_star(values: &[Value]) -> bool
-    ensures { result ≡ all_items (λ d. not (is_text_with_star d)) (items_view values.now) }
+    ensures { result ≡ all_items_pass (λ d. not (is_text_with_star d)) (items_view values.now) }
 {
     for value in values {
         if is_text_with_star(value) {
@@ -330,7 +341,7 @@ fn have_no_star(values: &[Value]) -> bool
 }
 
 /// Whether a path has a `*`.
-fn line_has_path_with_star(table: &Table) -> bool
+fn line_has_path_with_star(table: &TomlTable) -> bool
     ensures { result ≡ line_has_path_with_star (table_view table.now) }
 {
     if let Some(text) = text_of_key(table, "path") {
@@ -345,41 +356,49 @@ fn line_has_path_with_star(table: &Table) -> bool
 }
 
 /// What version 4 refuses of a line whose keys are good.
-fn spelling_fault(version: TableVersion, number: u16, table: &Table) -> Option<ConfigFault>
-    ensures fault { result ≡ spelling_fault version number (table_view table.now) }
-    ensures found_fault { ¬ (result ≡ Some ConfigFault.OutOfMemory) }
+fn lowercase_or_star_fault(
+    version: TableVersion,
+    number: u16,
+    table: &TomlTable,
+) -> Option<TableFault>
+    ensures fault { result ≡ lowercase_or_star_fault version number (table_view table.now) }
+    ensures found_fault { ¬ (result ≡ Some TableFault.OutOfMemory) }
 {
     if version != TableVersion::Four {
         return None;
     }
     if line_has_lowercase_method(table) {
-        return Some(ConfigFault::MethodInLowerCase(number));
+        return Some(TableFault::MethodInLowerCase(number));
     }
     if line_has_path_with_star(table) {
-        return Some(ConfigFault::StarInPath(number));
+        return Some(TableFault::StarInPath(number));
     }
     None
 }
 
 /// The first fault of a line.
 #[tactic(auto, unfolding(crate::specs::LineTables::line_fault))]
-fn line_fault(version: TableVersion, number: u16, table: &Table) -> Option<FoundFault<'_>>
-    ensures first { option_map config_fault_found result ≡ line_fault version number (table_view table.now) }
-    ensures found_fault { ¬ (result ≡ Some (FoundFault.Other ConfigFault.OutOfMemory)) }
+fn line_fault(
+    version: TableVersion,
+    number: u16,
+    table: &TomlTable,
+) -> Option<BorrowedTableFault<'_>>
+    ensures first { option_map table_fault_of_borrowed result ≡ line_fault version number (table_view table.now) }
+    ensures found_fault { ¬ (result ≡ Some (BorrowedTableFault.Other TableFault.OutOfMemory)) }
 {
     if let Some(key) = first_unknown(Scope::Line(version), table) {
-        return Some(FoundFault::UnknownKey(key));
+        return Some(BorrowedTableFault::UnknownKey(key));
     }
     if let Some(key) = first_bad_key(version, table) {
-        return Some(FoundFault::Other(key.fault(number)));
+        return Some(BorrowedTableFault::Other(key.fault(number)));
     }
-    let fault = spelling_fault(version, number, table)?;
-    Some(FoundFault::Other(fault))
+    let fault = lowercase_or_star_fault(version, number, table)?;
+    Some(BorrowedTableFault::Other(fault))
 }
 
 /// The address of an origin, which the word that denies is none of.
 fn origin_rule(alloc: Global, text: Option<&str>) -> Result<Option<Origin>, AllocError>
-    ensures { IfOk result (λ origin. origin ≡ option_and_then address_text (option_copied text.entry)) }
+    ensures { IfOk result (λ origin. origin ≡ option_and_then text_if_address (option_copied text.entry)) }
 {
     match text {
         Some(text) => Origin::of(alloc, text),
@@ -409,7 +428,7 @@ fn copy_texts(alloc: Global, values: &[Value]) -> Result<Vec<Bytes>, AllocError>
 }
 
 /// The texts of a list, where the key has one.
-fn texts_in_list(alloc: Global, table: &Table, key: &str) -> Result<Vec<Bytes>, AllocError>
+fn texts_in_list(alloc: Global, table: &TomlTable, key: &str) -> Result<Vec<Bytes>, AllocError>
     ensures { IfOk result (λ texts. texts.items
         ≡ texts_of_items (unwrap_or (items_of_key key.now (table_view table.now)) no_items)) }
 {
@@ -420,7 +439,7 @@ fn texts_in_list(alloc: Global, table: &Table, key: &str) -> Result<Vec<Bytes>, 
 }
 
 /// The text of a key, or those of its list.
-fn texts_of_key(alloc: Global, table: &Table, key: &str) -> Result<Vec<Bytes>, AllocError>
+fn texts_of_key(alloc: Global, table: &TomlTable, key: &str) -> Result<Vec<Bytes>, AllocError>
     ensures { IfOk result (λ texts. texts.items ≡ texts_of_key key.now (table_view table.now)) }
 {
     if let Some(text) = text_of_key(table, key) {
@@ -456,7 +475,11 @@ fn paths_of(alloc: Global, texts: &[Bytes]) -> Result<Vec<LinePath>, AllocError>
 
 /// What a line without fault says, in a table of a version.
 #[tactic(auto, unfolding(crate::specs::LineTables::line_of_members))]
-fn line_of_members(alloc: Global, version: TableVersion, table: &Table) -> Result<Line, AllocError>
+fn line_of_members(
+    alloc: Global,
+    version: TableVersion,
+    table: &TomlTable,
+) -> Result<Line, AllocError>
     ensures { IfOk result (λ line. line ≡ line_of_members version (table_view table.now)) }
 {
     let hosts = texts_of_key(alloc, table, "host")?;
@@ -472,7 +495,7 @@ fn line_of_members(alloc: Global, version: TableVersion, table: &Table) -> Resul
         vary: texts_in_list(alloc, table, "vary")?,
         origin_timeout: origin_timeout_seconds(table),
         purge_key: copy_of_text(alloc, text_of_key(table, LineOption::PurgeKey.row().key))?,
-        wait_timeout: wait_timeout_seconds(version, table),
+        wait_timeout: collapsed_wait_timeout_seconds(version, table),
     })
 }
 
@@ -480,10 +503,10 @@ fn fault_of_line_if_table(
     version: TableVersion,
     number: u16,
     value: &Value,
-) -> Option<FoundFault<'_>>
-    ensures first { option_map config_fault_found result ≡ fault_of_line_if_table version number
+) -> Option<BorrowedTableFault<'_>>
+    ensures first { option_map table_fault_of_borrowed result ≡ fault_of_line_if_table version number
         (as_table (view value.now)) }
-    ensures found_fault { ¬ (result ≡ Some (FoundFault.Other ConfigFault.OutOfMemory)) }
+    ensures found_fault { ¬ (result ≡ Some (BorrowedTableFault.Other TableFault.OutOfMemory)) }
 {
     match value.as_table() {
         Some(table) => line_fault(version, number, table),
@@ -492,10 +515,13 @@ fn fault_of_line_if_table(
 }
 
 /// The first fault among at most 4,096 lines, which are counted from 1.
-pub fn first_fault_of_lines(version: TableVersion, values: &[Value]) -> Option<FoundFault<'_>>
+pub fn first_fault_of_lines(
+    version: TableVersion,
+    values: &[Value],
+) -> Option<BorrowedTableFault<'_>>
     requires { length values.now ≤ 4096 }
-    ensures first { option_map config_fault_found result ≡ first_fault_of_lines version 1 (items_view values.now) }
-    ensures found_fault { ¬ (result ≡ Some (FoundFault.Other ConfigFault.OutOfMemory)) }
+    ensures first { option_map table_fault_of_borrowed result ≡ first_fault_of_lines version 1 (items_view values.now) }
+    ensures found_fault { ¬ (result ≡ Some (BorrowedTableFault.Other TableFault.OutOfMemory)) }
 {
     let mut number = 1u16;
     for value in values {

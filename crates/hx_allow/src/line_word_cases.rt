@@ -4,14 +4,15 @@ ghost use Rattle.std.specs.Prelude.{◌≡◌, ◌∷◌, [], Some, None, Ok, tr
 ghost use Rattle.toml.specs.Data.{boolean, integer};
 ghost use Rattle.toml.specs.Parse.{parse_document};
 ghost use Rattle.hx_policy.specs.Policies.{plain, default_policy_with_hidden_tags};
-ghost use Rattle.hx_allow.specs.Examples.{denying_line_table_with, key_with_number, line_with_method, origin_8081};
+ghost use Rattle.hx_allow.specs.Examples.{denying_line_table_with, key_with_number, example_line_with_method};
+ghost use Rattle.hx_allow.specs.Examples.{origin_8081};
 ghost use Rattle.hx_allow.specs.Examples.{key_with_text, line_table_with_keys, line_of_version_four};
 ghost use Rattle.hx_allow.specs.Examples.{policy_of_version_four};
 ghost use Rattle.hx_allow.specs.Keys.{key_of_line_option};
 ghost use Rattle.hx_allow.specs.LineTables.{line_fault, line_of_members};
-ghost use Rattle.hx_allow.specs.Tables.{judge_table};
+ghost use Rattle.hx_allow.specs.Tables.{config_or_fault_of_table};
 ghost use Rattle.hx_allow.specs.Values.{is_known_key};
-ghost use Rattle.hx_allow.specs.declared.config_faults.ConfigFault.TheVariants.{BadCache, BadWord, UnknownKey};
+ghost use Rattle.hx_allow.specs.declared.config_faults.TableFault.TheVariants.{BadCache, BadWord, UnknownKey};
 ghost use Rattle.hx_allow.specs.declared.config_faults.LineOption.TheVariants.{Lifetime, ErrorLifetime, StaleIfError};
 ghost use Rattle.hx_allow.specs.declared.config_faults.LineOption.TheVariants.{SetCookie, Errors, RequestDirectives};
 ghost use Rattle.hx_allow.specs.declared.config_faults.LineOption.TheVariants.{Wait, Explain, Conditions};
@@ -324,7 +325,7 @@ pub fn worked_error_lifetimes_by_version()
 /// In the fourth version the conditions of clients stay with the proxy, unless the line says else, denies or has its
 /// cache off; in the third they are the origin's.
 #[tactic(auto, unfolding(crate::specs::LineTables::line_of_members))]
-pub fn worked_conditions_by_version()
+pub fn worked_client_conditions_by_version()
     ensures of_three { (line_of_members Three (line_table_with_keys [])).policy.forwards_conditions ≡ true }
     ensures of_four { (line_of_members Four (line_table_with_keys [])).policy.forwards_conditions ≡ false }
     ensures answered { (line_of_members Four (line_table_with_keys (key_with_text (codes "conditions") (codes "answered") ∷ []))).policy
@@ -340,7 +341,7 @@ pub fn worked_conditions_by_version()
 /// In the fourth version a line gives its lifetimes to no request with a cookie, unless it says else, denies or has its
 /// cache off; in the third it gives them to each.
 #[tactic(auto, unfolding(crate::specs::LineTables::line_of_members))]
-pub fn worked_cookies_by_version()
+pub fn worked_cookies_by_config_version()
     ensures of_three { (line_of_members Three
         (line_table_with_keys (key_with_number (codes "lifetime") 60 ∷ []))).policy.gives_to_cookies ≡ true }
     ensures of_four { (line_of_members Four
@@ -368,7 +369,7 @@ pub fn worked_cookies_of_responses_by_version()
     ensures not_stored { (line_of_members Four (line_table_with_keys (key_with_text (codes "set-cookie") (codes "not-stored")
         ∷ []))).policy ≡ record policy_of_version_four { stores_cookies = false; gives_to_set_cookie = true } }
     ensures removed { (line_of_members Four (line_table_with_keys (key_with_text (codes "set-cookie") (codes "removed") ∷ []))).policy
-        ≡ record policy_of_version_four { removes_cookies = true; gives_to_set_cookie = true } }
+        ≡ record policy_of_version_four { removes_set_cookie = true; gives_to_set_cookie = true } }
     ensures removed_in_three { (line_of_members Three
         (line_table_with_keys (key_with_text (codes "set-cookie") (codes "removed") ∷ []))).policy ≡ plain true }
     ensures off { (line_of_members Four (line_table_with_keys (key_with_text (codes "cache") (codes "off") ∷ []))).policy
@@ -403,15 +404,15 @@ pub fn worked_stale_while_revalidate_by_version()
 {}
 
 /// A whole table of version 3.
-#[tactic(auto, unfolding(toml::proofs::OnLiterals::toml_on_literals, crate::specs::Tables::judge_table, crate::specs::Tables::table_fault, crate::specs::Tables::table_of_members, crate::specs::Tables::is_name, crate::specs::LineTables::line_fault, crate::specs::LineTables::line_of_members, crate::specs::LineTables::is_line_host, crate::specs::LineTables::is_line_method, crate::specs::LineTables::is_line_path, crate::specs::Addresses::address_of, hx_target::specs::Hosts::is_host, hx_target::specs::Hosts::number_of_few_digits, hx_target::specs::Paths::has_dot_segment))]
+#[tactic(auto, unfolding(toml::proofs::OnLiterals::toml_on_literals, crate::specs::Tables::config_or_fault_of_table, crate::specs::Tables::table_fault, crate::specs::Tables::table_of_members, crate::specs::Tables::is_name, crate::specs::LineTables::line_fault, crate::specs::LineTables::line_of_members, crate::specs::LineTables::is_line_host, crate::specs::LineTables::is_line_method, crate::specs::LineTables::is_line_path, crate::specs::Addresses::address_of, hx_target::specs::Hosts::is_host, hx_target::specs::Hosts::number_of_few_digits, hx_target::specs::Paths::has_dot_segment))]
 pub fn worked_table_of_version_three()
-    ensures { option_map judge_table (parse_document (codes "version = 3\nname = \"edge\"\ncapacity = 2\nmax_body = 1000\nmax_stored = 1000\n\n[[line]]\nhost = \"*\"\nmethods = [\"GET\"]\npath = \"/\"\norigin = \"127.0.0.1:8081\"\nlifetime = 60\nstale-if-error = 600\nset-cookie = \"not-stored\"\nerrors = \"not-stored\"\nrequest-directives = \"ignored\"\nwait = \"missing-or-stale\"\nexplain = \"storing\"\n")) ≡ Some (Ok (record {
+    ensures { option_map config_or_fault_of_table (parse_document (codes "version = 3\nname = \"edge\"\ncapacity = 2\nmax_body = 1000\nmax_stored = 1000\n\n[[line]]\nhost = \"*\"\nmethods = [\"GET\"]\npath = \"/\"\norigin = \"127.0.0.1:8081\"\nlifetime = 60\nstale-if-error = 600\nset-cookie = \"not-stored\"\nerrors = \"not-stored\"\nrequest-directives = \"ignored\"\nwait = \"missing-or-stale\"\nexplain = \"storing\"\n")) ≡ Some (Ok (record {
       name = codes "edge";
       capacity = 2;
       max_body = 1000;
       max_stored = 1000;
       max_store = None;
-      lines = record (line_with_method None (codes "GET") (codes "/") origin_8081) {
+      lines = record (example_line_with_method None (codes "GET") (codes "/") origin_8081) {
         policy = record {
           caches = true;
           lifetime = Some 60;
@@ -420,7 +421,7 @@ pub fn worked_table_of_version_three()
           stale_if_error = Some 600;
           stale_while_revalidate = None;
           stores_cookies = false;
-          removes_cookies = false;
+          removes_set_cookie = false;
           gives_to_set_cookie = true;
           gives_to_cookies = true;
           stores_errors = false;
@@ -438,9 +439,9 @@ pub fn worked_table_of_version_three()
 {}
 
 /// A whole table of version 4.
-#[tactic(auto, unfolding(toml::proofs::OnLiterals::toml_on_literals, crate::specs::Tables::judge_table, crate::specs::Tables::table_fault, crate::specs::Tables::table_of_members, crate::specs::Tables::is_name, crate::specs::LineTables::line_fault, crate::specs::LineTables::line_of_members, crate::specs::LineTables::is_line_host, crate::specs::LineTables::is_line_method, crate::specs::LineTables::is_line_path, crate::specs::Addresses::address_of, hx_target::specs::Hosts::is_host, hx_target::specs::Hosts::number_of_few_digits, hx_target::specs::Paths::has_dot_segment))]
+#[tactic(auto, unfolding(toml::proofs::OnLiterals::toml_on_literals, crate::specs::Tables::config_or_fault_of_table, crate::specs::Tables::table_fault, crate::specs::Tables::table_of_members, crate::specs::Tables::is_name, crate::specs::LineTables::line_fault, crate::specs::LineTables::line_of_members, crate::specs::LineTables::is_line_host, crate::specs::LineTables::is_line_method, crate::specs::LineTables::is_line_path, crate::specs::Addresses::address_of, hx_target::specs::Hosts::is_host, hx_target::specs::Hosts::number_of_few_digits, hx_target::specs::Paths::has_dot_segment))]
 pub fn worked_table_of_version_four()
-    ensures { option_map judge_table (parse_document (codes "version = 4\nname = \"edge\"\ncapacity = 2\nmax_body = 1000\nmax_stored = 1000\n\n[[line]]\nhost = \"*\"\nmethods = [\"GET\"]\npath = \"/\"\norigin = \"127.0.0.1:8081\"\nlifetime = 60\nerror-lifetime = 5\n")) ≡ Some (Ok (record {
+    ensures { option_map config_or_fault_of_table (parse_document (codes "version = 4\nname = \"edge\"\ncapacity = 2\nmax_body = 1000\nmax_stored = 1000\n\n[[line]]\nhost = \"*\"\nmethods = [\"GET\"]\npath = \"/\"\norigin = \"127.0.0.1:8081\"\nlifetime = 60\nerror-lifetime = 5\n")) ≡ Some (Ok (record {
       name = codes "edge";
       capacity = 2;
       max_body = 1000;

@@ -1,7 +1,7 @@
 //! A line of the table, and which requests it matches.
 ghost use Rattle.std.specs.Prelude.{◌≡◌};
 ghost use Rattle.std.specs.List.{list_any};
-ghost use Rattle.hx_allow.specs.Matching.{is_never_allowed, is_star_or_same, any_path_matches};
+ghost use Rattle.hx_allow.specs.Matching.{method_is_never_allowed, is_star_or_same, any_path_matches};
 ghost use Rattle.hx_allow.specs.Index.{line_matches_method_and_path};
 
 use crate::line_hosts::LineHost;
@@ -59,8 +59,8 @@ impl Model for Line {
 }
 
 /// Whether no line matches the method, `*` included.
-pub fn is_never_allowed(method: &[u8]) -> bool
-    ensures { result ≡ is_never_allowed method.now }
+pub fn method_is_never_allowed(method: &[u8]) -> bool
+    ensures { result ≡ method_is_never_allowed method.now }
 {
     method == b"CONNECT".as_slice()
         || method == b"TRACE".as_slice()

@@ -10,7 +10,7 @@ ghost use Rattle.hx_target.specs.declared.targets.Target.{Target};
 ghost use Rattle.hx_allow.specs.Deciding.{deciding_line};
 ghost use Rattle.hx_allow.specs.LineHosts.{is_below_host, labels_of};
 ghost use Rattle.hx_allow.specs.Matching.{matches_line};
-ghost use Rattle.hx_allow.specs.OneByOne.{line_split_by_host_and_path, lines_split_by_host_and_path};
+ghost use Rattle.hx_allow.specs.OneByOne.{line_for_each_host_and_path, lines_split_by_host_and_path};
 ghost use Rattle.hx_allow.specs.OneByOne.{origin_and_policy_of_line};
 ghost use Rattle.hx_allow.specs.LineTables.{is_text_or_list_of_kind, most_list_texts};
 ghost use Rattle.hx_allow.specs.Rows.{ValueKind, a_host, a_path};
@@ -22,12 +22,12 @@ ghost use Rattle.hx_allow.specs.declared.values.TableVersion.TheVariants.{Four};
 /// for each of its hosts with each of its paths. Where each line of a table is spelled so, in its place,
 /// the line that decides on a request is the first that matches among those of the line that decided
 /// before, and says the same: its origin, or that it denies, and its words.
-pub fn lists_add_no_new_rule()
+pub fn lists_mean_the_same_as_many_lines()
     ensures matching { (line : Line) (method : List ℕ) (target : Target) → matches_line line method target
-        ≡ list_any (λ one. matches_line one method target) (line_split_by_host_and_path line) }
+        ≡ list_any (λ one. matches_line one method target) (line_for_each_host_and_path line) }
     ensures deciding { (lines : List Line) (method : List ℕ) (target : Target)
         → deciding_line (lines_split_by_host_and_path lines) method target
-        ≡ option_and_then (λ line. deciding_line (line_split_by_host_and_path line) method target)
+        ≡ option_and_then (λ line. deciding_line (line_for_each_host_and_path line) method target)
         (deciding_line lines method target) }
     ensures said { (lines : List Line) (method : List ℕ) (target : Target)
         → option_map origin_and_policy_of_line (deciding_line (lines_split_by_host_and_path lines) method target)

@@ -5,10 +5,10 @@ ghost use Rattle.hx_allow.specs.Examples.{key_with_text, line_table_with_keys, d
 ghost use Rattle.hx_allow.specs.Examples.{loop_refusing_table, target_for_path};
 ghost use Rattle.hx_allow.specs.LineTables.{line_fault, line_of_members};
 ghost use Rattle.hx_allow.specs.Keys.{key_of_line_option};
-ghost use Rattle.hx_allow.specs.Matching.{verdict_of_request, request_is_refused_as_loop, route_over};
+ghost use Rattle.hx_allow.specs.Matching.{verdict_of_request, request_is_refused_as_loop, route_over_line};
 ghost use Rattle.hx_allow.specs.Values.{is_known_key};
 ghost use Rattle.hx_allow.specs.Via.{times_in_via_line, via_names_proxy_twice};
-ghost use Rattle.hx_allow.specs.declared.config_faults.ConfigFault.TheVariants.{BadWord, UnknownKey};
+ghost use Rattle.hx_allow.specs.declared.config_faults.TableFault.TheVariants.{BadWord, UnknownKey};
 ghost use Rattle.hx_allow.specs.declared.config_faults.LineOption.TheVariants.{Conditions, Loops};
 ghost use Rattle.hx_allow.specs.declared.values.Scope.TheVariants.{Top, Line};
 ghost use Rattle.hx_allow.specs.declared.values.TableVersion.TheVariants.{Three, Four};
@@ -62,25 +62,25 @@ pub fn worked_requests_that_loop()
     ensures told_refused { verdict_of_request loop_refusing_table (codes "GET") (target_for_path (codes "x") (codes "/"))
         (line (codes "Via") (codes "1.1 edge, 1.1 edge") ∷ []) ≡ Looped 2 }
     ensures told_once { verdict_of_request loop_refusing_table (codes "GET") (target_for_path (codes "x") (codes "/"))
-        (line (codes "Via") (codes "1.1 edge") ∷ []) ≡ Allowed (route_over 2) }
+        (line (codes "Via") (codes "1.1 edge") ∷ []) ≡ Allowed (route_over_line 2) }
     ensures told_forwarded { verdict_of_request loop_refusing_table (codes "POST") (target_for_path (codes "x") (codes "/"))
-        (line (codes "Via") (codes "1.1 edge, 1.1 edge") ∷ []) ≡ Allowed (route_over 3) }
+        (line (codes "Via") (codes "1.1 edge, 1.1 edge") ∷ []) ≡ Allowed (route_over_line 3) }
     ensures told_denied { verdict_of_request loop_refusing_table (codes "GET") (target_for_path (codes "x") (codes "/p"))
         (line (codes "Via") (codes "1.1 edge, 1.1 edge") ∷ []) ≡ DeniedBy 1 }
     ensures told_unmatched { verdict_of_request loop_refusing_table (codes "POST") (target_for_path (codes "y") (codes "/"))
         (line (codes "Via") (codes "1.1 edge, 1.1 edge") ∷ []) ≡ NoLine }
-    ensures came_back_once { request_is_refused_as_loop loop_refusing_table (route_over 2)
+    ensures came_back_once { request_is_refused_as_loop loop_refusing_table (route_over_line 2)
         (line (codes "Via") (codes "1.0 core, 1.1 edge") ∷ []) ≡ true }
-    ensures came_back_twice { request_is_refused_as_loop loop_refusing_table (route_over 2)
+    ensures came_back_twice { request_is_refused_as_loop loop_refusing_table (route_over_line 2)
         (line (codes "Via") (codes "1.1 edge, 1.1 edge") ∷ []) ≡ true }
-    ensures came_back_another { request_is_refused_as_loop loop_refusing_table (route_over 2)
+    ensures came_back_another { request_is_refused_as_loop loop_refusing_table (route_over_line 2)
         (line (codes "Via") (codes "1.0 core") ∷ [])
         ≡ false }
-    ensures came_back_without_via { request_is_refused_as_loop loop_refusing_table (route_over 2) [] ≡ false }
-    ensures came_back_forwarded { request_is_refused_as_loop loop_refusing_table (route_over 3)
+    ensures came_back_without_via { request_is_refused_as_loop loop_refusing_table (route_over_line 2) [] ≡ false }
+    ensures came_back_forwarded { request_is_refused_as_loop loop_refusing_table (route_over_line 3)
         (line (codes "Via") (codes "1.1 edge") ∷ [])
         ≡ false }
-    ensures came_back_no_line { request_is_refused_as_loop loop_refusing_table (route_over 4)
+    ensures came_back_no_line { request_is_refused_as_loop loop_refusing_table (route_over_line 4)
         (line (codes "Via") (codes "1.1 edge") ∷ [])
         ≡ false }
 {}

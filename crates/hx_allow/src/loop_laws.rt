@@ -7,14 +7,15 @@ ghost use Rattle.hx_fields.specs.Names.{is_same_name};
 ghost use Rattle.hx_target.specs.declared.targets.Target.{Target};
 ghost use Rattle.hx_allow.specs.TableLines.{Table};
 ghost use Rattle.hx_allow.specs.LineTables.{line_of_members};
-ghost use Rattle.hx_allow.specs.LineWords.{key_has_text};
-ghost use Rattle.hx_allow.specs.Matching.{line_refuses_loops, verdict_of, verdict_after_cookie_check};
+ghost use Rattle.hx_allow.specs.LineWords.{text_of_key_equals};
+ghost use Rattle.hx_allow.specs.Matching.{line_refuses_loops, verdict_of, verdict_routed_by_session_cookies};
 ghost use Rattle.hx_allow.specs.Matching.{verdict_after_purge};
 ghost use Rattle.hx_allow.specs.Matching.{verdict_of_request};
-ghost use Rattle.hx_allow.specs.declared.verdicts.RequestRoute.{RequestRoute};
+ghost use Rattle.hx_allow.specs.declared.verdicts.RouteOverLine.{RouteOverLine};
 ghost use Rattle.hx_allow.specs.Rows.{has_keys_of};
-ghost use Rattle.hx_allow.specs.Tables.{table_version_of, judge_table};
-ghost use Rattle.hx_allow.specs.Via.{times_in_via, times_in_via_line, ViaMember, is_via_member, via_line_text};
+ghost use Rattle.hx_allow.specs.Tables.{table_version_of, config_or_fault_of_table};
+ghost use Rattle.hx_allow.specs.Via.{times_in_via, times_in_via_line, ViaMember, is_wellformed_via_member};
+ghost use Rattle.hx_allow.specs.Via.{via_line_text};
 ghost use Rattle.hx_allow.specs.declared.values.TableVersion.TheVariants.{Four};
 ghost use Rattle.hx_allow.specs.declared.verdicts.Verdict.TheVariants.{Allowed, Looped};
 
@@ -22,7 +23,7 @@ ghost use Rattle.hx_allow.specs.declared.verdicts.Verdict.TheVariants.{Allowed, 
 /// received-by is its name, whatever stands in comments. Several lines count together.
 pub fn a_line_of_via_is_read_as_it_is_written()
     ensures written { (name : List ℕ) (member : ViaMember) (more : List ViaMember)
-        → list_all is_via_member (member ∷ more) ≡ true → times_in_via_line name (via_line_text member more)
+        → list_all is_wellformed_via_member (member ∷ more) ≡ true → times_in_via_line name (via_line_text member more)
         ≡ count_by (λ (m : ViaMember). is_same_name m.by name) (member ∷ more) }
     ensures together { (name : List ℕ) (fields more : List Field) → times_in_via name (fields ++ more)
         ≡ times_in_via name fields + times_in_via name more }
@@ -32,31 +33,31 @@ pub fn a_line_of_via_is_read_as_it_is_written()
 /// refuses loops. One of version 4 does exactly where it doesn't say that they are forwarded.
 #[tactic(auto, unfolding(crate::specs::LineTables::line_of_members))]
 pub fn a_loop_is_refused_where_its_line_refuses()
-    ensures refused { (table : Table) (method : List ℕ) (target : Target) (fields : List Field) (route : RequestRoute)
+    ensures refused { (table : Table) (method : List ℕ) (target : Target) (fields : List Field) (route : RouteOverLine)
         → verdict_of table.lines method target ≡ Allowed route → line_refuses_loops table.lines route.number ≡ true
         → 2 ≤ times_in_via table.name fields → verdict_of_request table method target fields ≡ Looped route.number }
     ensures nothing_else { (table : Table) (method : List ℕ) (target : Target) (fields : List Field) (line : ℕ)
         → verdict_of_request table method target fields ≡ Looped line
-        → (route : RequestRoute) × (verdict_of table.lines method target ≡ Allowed route) × (route.number ≡ line)
+        → (route : RouteOverLine) × (verdict_of table.lines method target ≡ Allowed route) × (route.number ≡ line)
         × (line_refuses_loops table.lines line ≡ true) × (2 ≤ times_in_via table.name fields) }
     ensures version_four { (members : Members) → (line_of_members Four members).refuses_loops
-        ≡ not (key_has_text (codes "loops") (codes "forwarded") members) }
+        ≡ not (text_of_key_equals (codes "loops") (codes "forwarded") members) }
 {}
 
 /// A request whose Via doesn't name the proxy twice has the verdict on its method and target, but for the store past
 /// which its cookies may bring it and the key that it may show, and so has each request over a line that lets loops go
 /// on. All lines of tables of the first three versions do, none of them looks at cookies, and none purges.
-pub fn requests_without_loops_are_judged_as_before()
+pub fn only_refused_loops_change_the_verdict()
     ensures seldom { (table : Table) (method : List ℕ) (target : Target) (fields : List Field)
         → times_in_via table.name fields ≤ 1 → verdict_of_request table method target fields
         ≡ verdict_after_purge table.lines fields
-        (verdict_after_cookie_check table.lines fields (verdict_of table.lines method target)) }
+        (verdict_routed_by_session_cookies table.lines fields (verdict_of table.lines method target)) }
     ensures forwarded { (table : Table) (method : List ℕ) (target : Target) (fields : List Field)
-        → ((route : RequestRoute) → verdict_of table.lines method target ≡ Allowed route
+        → ((route : RouteOverLine) → verdict_of table.lines method target ≡ Allowed route
         → line_refuses_loops table.lines route.number ≡ false) → verdict_of_request table method target fields
         ≡ verdict_after_purge table.lines fields
-        (verdict_after_cookie_check table.lines fields (verdict_of table.lines method target)) }
+        (verdict_routed_by_session_cookies table.lines fields (verdict_of table.lines method target)) }
     ensures earlier_versions { (t : Members) (table : Table) (method : List ℕ) (target : Target) (fields : List Field)
-        → has_keys_of (table_version_of t) Four ≡ false → judge_table t ≡ Ok table
+        → has_keys_of (table_version_of t) Four ≡ false → config_or_fault_of_table t ≡ Ok table
         → verdict_of_request table method target fields ≡ verdict_of table.lines method target }
 {}

@@ -8,7 +8,7 @@ ghost use Rattle.hx_allow.specs.Index.{IsHostIndexOfLines, NoIndexedHostIsLonger
 
 use crate::host_index::HostIndex;
 use crate::lines::Line;
-use crate::{RequestRoute, Verdict};
+use crate::{RouteOverLine, Verdict};
 
 /// The line of a number, counted from 1.
 pub(crate) fn line_at(lines: &[Line], number: u16) -> Option<&Line>
@@ -35,7 +35,7 @@ fn verdict_of_line(number: u16, line: &Line) -> Verdict
     ensures { result ≡ verdict_of_line number line.now }
 {
     if line.origin.is_some() {
-        Verdict::Allowed(RequestRoute::over(number))
+        Verdict::Allowed(RouteOverLine::over(number))
     } else {
         Verdict::DeniedBy(number)
     }
@@ -81,7 +81,7 @@ fn verdict_of_parent_domains(
     let skipped = host.len().saturating_sub(index.longest()).saturating_sub(1);
     for place in skipped..host.len() {
         if host[place] == b'.' {
-            let numbers = index.for_hosts_below(&host[place + 1..]);
+            let numbers = index.lines_for_hosts_below(&host[place + 1..]);
             found = verdict_by_line_numbers(lines, numbers, method, path, found);
         }
     }

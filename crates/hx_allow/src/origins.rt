@@ -1,7 +1,7 @@
 //! The origin of a line.
 ghost use Rattle.std.specs.Prelude.{◌≡◌, IfOk, Some};
 ghost use Rattle.std.specs.Net.Text.{socket_v4_text};
-ghost use Rattle.hx_allow.specs.Addresses.{address_of, address_text};
+ghost use Rattle.hx_allow.specs.Addresses.{address_of, text_if_address};
 
 use crate::addresses::address_of;
 use std::alloc::{AllocError, Global};
@@ -29,7 +29,7 @@ impl Model for Origin {
 impl Origin {
     /// That of a text, where the text spells an address.
     pub fn of(alloc: Global, text: &str) -> Result<Option<Origin>, AllocError>
-        ensures { IfOk result (λ origin. origin ≡ address_text text.now) }
+        ensures { IfOk result (λ origin. origin ≡ text_if_address text.now) }
     {
         match address_of(text.as_bytes()) {
             Some(address) => Ok(Some(Origin {

@@ -3,24 +3,24 @@
 //! It stands in the line itself, so most lines that don't match are passed over without a look at
 //! the bytes of their paths.
 ghost use Rattle.std.specs.Prelude.{◌≡◌};
-ghost use Rattle.hx_allow.specs.PathTails.{path_may_match_tail, path_tail_of};
+ghost use Rattle.hx_allow.specs.PathTails.{path_may_match_tail, path_length_and_end_of};
 
 /// How long a line's path is, and its last byte. Of `/`, which every path matches, the size is 0.
 #[derive(Clone, Copy)]
-pub struct PathTail {
+pub struct PathLengthAndLastByte {
     size: usize,
     last: u8,
 }
 
-impl PathTail {
+impl PathLengthAndLastByte {
     /// That of a line's path.
-    pub fn of(path: &[u8]) -> PathTail
-        ensures { result ≡ path_tail_of path.now }
+    pub fn of(path: &[u8]) -> PathLengthAndLastByte
+        ensures { result ≡ path_length_and_end_of path.now }
     {
         if path == b"/".as_slice() {
-            return PathTail { size: 0, last: 0 };
+            return PathLengthAndLastByte { size: 0, last: 0 };
         }
-        PathTail {
+        PathLengthAndLastByte {
             size: path.len(),
             last: path.last().copied().unwrap_or(0),
         }

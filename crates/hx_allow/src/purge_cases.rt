@@ -6,12 +6,13 @@ ghost use Rattle.hx_allow.specs.Examples.{purging_line_table_with, table_with_pu
 ghost use Rattle.hx_allow.specs.LineTables.{is_line_origin, line_fault, line_of_members};
 ghost use Rattle.hx_allow.specs.Keys.{key_of_line_option};
 ghost use Rattle.hx_allow.specs.Matching.{verdict_of, verdict_of_request};
-ghost use Rattle.hx_allow.specs.Purges.{is_purge_key, shows_purge_key, has_unknown_purge_order, purge_scope_or_target};
+ghost use Rattle.hx_allow.specs.Purges.{is_purge_key, request_shows_purge_key, has_invalid_purge_field};
+ghost use Rattle.hx_allow.specs.Purges.{purge_scope_of_request};
 ghost use Rattle.hx_allow.specs.Purges.{is_in_purge_scope};
 ghost use Rattle.hx_allow.specs.declared.purges.PurgeScope.TheVariants.{Target, Prefix, Host, All};
 ghost use Rattle.hx_allow.specs.Values.{is_known_key};
-ghost use Rattle.hx_allow.specs.declared.config_faults.ConfigFault.TheVariants.{BadWord, UnknownKey};
-ghost use Rattle.hx_allow.specs.declared.config_faults.ConfigFault.TheVariants.{BadCache, BadOrigin};
+ghost use Rattle.hx_allow.specs.declared.config_faults.TableFault.TheVariants.{BadWord, UnknownKey};
+ghost use Rattle.hx_allow.specs.declared.config_faults.TableFault.TheVariants.{BadCache, BadOrigin};
 ghost use Rattle.hx_allow.specs.declared.config_faults.LineOption.TheVariants.{Lifetime, Loops, OriginTimeout};
 ghost use Rattle.hx_allow.specs.declared.config_faults.LineOption.TheVariants.{PurgeKey};
 ghost use Rattle.hx_allow.specs.declared.values.Scope.TheVariants.{Top, Line};
@@ -32,55 +33,55 @@ pub fn worked_purge_keys()
 {}
 
 /// Which requests show a key, and which ask for what isn't known.
-pub fn worked_requests_with_keys()
-    ensures shown { shows_purge_key purge_key (line (codes "Purge-Key") purge_key ∷ []) ≡ true }
-    ensures any_case_of_the_name { shows_purge_key purge_key (line (codes "purge-key") purge_key ∷ []) ≡ true }
-    ensures in_a_later_line { shows_purge_key purge_key (line (codes "Purge-Key") (codes "x") ∷ line (codes "Host") (codes "h")
+pub fn worked_requests_with_purge_keys()
+    ensures shown { request_shows_purge_key purge_key (line (codes "Purge-Key") purge_key ∷ []) ≡ true }
+    ensures any_case_of_the_name { request_shows_purge_key purge_key (line (codes "purge-key") purge_key ∷ []) ≡ true }
+    ensures in_a_later_line { request_shows_purge_key purge_key (line (codes "Purge-Key") (codes "x") ∷ line (codes "Host") (codes "h")
         ∷ line (codes "Purge-Key") purge_key ∷ []) ≡ true }
-    ensures none { shows_purge_key purge_key (line (codes "Host") (codes "h") ∷ []) ≡ false }
-    ensures another_field { shows_purge_key purge_key (line (codes "Key") purge_key ∷ []) ≡ false }
-    ensures the_last_letter { shows_purge_key purge_key (line (codes "Purge-Key") (codes "0123456789abcXYz") ∷ []) ≡ false }
-    ensures the_first_letter { shows_purge_key purge_key (line (codes "Purge-Key") (codes "1123456789abcXYZ") ∷ []) ≡ false }
-    ensures its_beginning { shows_purge_key purge_key (line (codes "Purge-Key") (codes "0123456789abcXY") ∷ []) ≡ false }
-    ensures longer { shows_purge_key purge_key (line (codes "Purge-Key") (codes "0123456789abcXYZ0") ∷ []) ≡ false }
-    ensures empty { shows_purge_key purge_key (line (codes "Purge-Key") [] ∷ []) ≡ false }
-    ensures quoted { shows_purge_key purge_key (line (codes "Purge-Key") (codes "\"0123456789abcXYZ\"") ∷ []) ≡ false }
-    ensures no_more { has_unknown_purge_order (line (codes "Purge-Key") purge_key ∷ line (codes "Host") (codes "h") ∷ []) ≡ false }
-    ensures a_scope { has_unknown_purge_order (line (codes "Purge-Scope") (codes "prefix") ∷ []) ≡ false }
-    ensures any_case_of_scope { has_unknown_purge_order (line (codes "purge-scope") (codes "host") ∷ []) ≡ false }
-    ensures an_unknown_scope { has_unknown_purge_order (line (codes "Purge-Scope") (codes "site") ∷ []) ≡ true }
-    ensures a_scope_in_capitals { has_unknown_purge_order (line (codes "Purge-Scope") (codes "ALL") ∷ []) ≡ true }
-    ensures an_empty_scope { has_unknown_purge_order (line (codes "Purge-Scope") [] ∷ []) ≡ true }
-    ensures two_scopes { has_unknown_purge_order (line (codes "Purge-Scope") (codes "all") ∷ line (codes "Purge-Scope")
+    ensures none { request_shows_purge_key purge_key (line (codes "Host") (codes "h") ∷ []) ≡ false }
+    ensures another_field { request_shows_purge_key purge_key (line (codes "Key") purge_key ∷ []) ≡ false }
+    ensures the_last_letter { request_shows_purge_key purge_key (line (codes "Purge-Key") (codes "0123456789abcXYz") ∷ []) ≡ false }
+    ensures the_first_letter { request_shows_purge_key purge_key (line (codes "Purge-Key") (codes "1123456789abcXYZ") ∷ []) ≡ false }
+    ensures its_beginning { request_shows_purge_key purge_key (line (codes "Purge-Key") (codes "0123456789abcXY") ∷ []) ≡ false }
+    ensures longer { request_shows_purge_key purge_key (line (codes "Purge-Key") (codes "0123456789abcXYZ0") ∷ []) ≡ false }
+    ensures empty { request_shows_purge_key purge_key (line (codes "Purge-Key") [] ∷ []) ≡ false }
+    ensures quoted { request_shows_purge_key purge_key (line (codes "Purge-Key") (codes "\"0123456789abcXYZ\"") ∷ []) ≡ false }
+    ensures no_more { has_invalid_purge_field (line (codes "Purge-Key") purge_key ∷ line (codes "Host") (codes "h") ∷ []) ≡ false }
+    ensures a_scope { has_invalid_purge_field (line (codes "Purge-Scope") (codes "prefix") ∷ []) ≡ false }
+    ensures any_case_of_scope { has_invalid_purge_field (line (codes "purge-scope") (codes "host") ∷ []) ≡ false }
+    ensures an_unknown_scope { has_invalid_purge_field (line (codes "Purge-Scope") (codes "site") ∷ []) ≡ true }
+    ensures a_scope_in_capitals { has_invalid_purge_field (line (codes "Purge-Scope") (codes "ALL") ∷ []) ≡ true }
+    ensures an_empty_scope { has_invalid_purge_field (line (codes "Purge-Scope") [] ∷ []) ≡ true }
+    ensures two_scopes { has_invalid_purge_field (line (codes "Purge-Scope") (codes "all") ∷ line (codes "Purge-Scope")
         (codes "all") ∷ []) ≡ true }
-    ensures listed_scopes { has_unknown_purge_order (line (codes "Purge-Scope") (codes "host, all") ∷ []) ≡ true }
-    ensures a_longer_scope { has_unknown_purge_order (line (codes "Purge-Scopes") (codes "all") ∷ []) ≡ true }
-    ensures a_tag { has_unknown_purge_order (line (codes "purge-tag") (codes "news") ∷ []) ≡ false }
-    ensures a_longer_tag { has_unknown_purge_order (line (codes "Purge-Tags") (codes "news") ∷ []) ≡ true }
-    ensures an_empty_tag { has_unknown_purge_order (line (codes "Purge-Tag") [] ∷ []) ≡ true }
-    ensures two_tags { has_unknown_purge_order (line (codes "Purge-Tag") (codes "news") ∷ line (codes "Purge-Tag")
+    ensures listed_scopes { has_invalid_purge_field (line (codes "Purge-Scope") (codes "host, all") ∷ []) ≡ true }
+    ensures a_longer_scope { has_invalid_purge_field (line (codes "Purge-Scopes") (codes "all") ∷ []) ≡ true }
+    ensures a_tag { has_invalid_purge_field (line (codes "purge-tag") (codes "news") ∷ []) ≡ false }
+    ensures a_longer_tag { has_invalid_purge_field (line (codes "Purge-Tags") (codes "news") ∷ []) ≡ true }
+    ensures an_empty_tag { has_invalid_purge_field (line (codes "Purge-Tag") [] ∷ []) ≡ true }
+    ensures two_tags { has_invalid_purge_field (line (codes "Purge-Tag") (codes "news") ∷ line (codes "Purge-Tag")
         (codes "news") ∷ []) ≡ true }
-    ensures listed_tags { has_unknown_purge_order (line (codes "Purge-Tag") (codes "news,sport") ∷ []) ≡ true }
-    ensures a_tag_with_a_blank { has_unknown_purge_order (line (codes "Purge-Tag") (codes "old news") ∷ []) ≡ true }
-    ensures a_tag_and_a_scope { has_unknown_purge_order (line (codes "Purge-Tag") (codes "news") ∷ line (codes "Purge-Scope")
+    ensures listed_tags { has_invalid_purge_field (line (codes "Purge-Tag") (codes "news,sport") ∷ []) ≡ true }
+    ensures a_tag_with_a_blank { has_invalid_purge_field (line (codes "Purge-Tag") (codes "old news") ∷ []) ≡ true }
+    ensures a_tag_and_a_scope { has_invalid_purge_field (line (codes "Purge-Tag") (codes "news") ∷ line (codes "Purge-Scope")
         (codes "host") ∷ []) ≡ false }
-    ensures a_tag_and_an_unknown_scope { has_unknown_purge_order (line (codes "Purge-Tag") (codes "news")
+    ensures a_tag_and_an_unknown_scope { has_invalid_purge_field (line (codes "Purge-Tag") (codes "news")
         ∷ line (codes "Purge-Scope") (codes "site") ∷ []) ≡ true }
-    ensures an_unknown_field { has_unknown_purge_order (line (codes "PURGE-AGE") (codes "stale") ∷ []) ≡ true }
-    ensures any { has_unknown_purge_order (line (codes "Host") (codes "h") ∷ line (codes "Purge-") [] ∷ []) ≡ true }
-    ensures a_longer_key { has_unknown_purge_order (line (codes "Purge-Keys") purge_key ∷ []) ≡ true }
-    ensures its_begin { has_unknown_purge_order (line (codes "Purge") (codes "x") ∷ []) ≡ false }
+    ensures an_unknown_field { has_invalid_purge_field (line (codes "PURGE-AGE") (codes "stale") ∷ []) ≡ true }
+    ensures any { has_invalid_purge_field (line (codes "Host") (codes "h") ∷ line (codes "Purge-") [] ∷ []) ≡ true }
+    ensures a_longer_key { has_invalid_purge_field (line (codes "Purge-Keys") purge_key ∷ []) ≡ true }
+    ensures its_begin { has_invalid_purge_field (line (codes "Purge") (codes "x") ∷ []) ≡ false }
 {}
 
 /// Which targets are within the scope of a purge.
 pub fn worked_scopes()
-    ensures by_default { purge_scope_or_target [] ≡ Target }
-    ensures of_a_tag { purge_scope_or_target (line (codes "Purge-Tag") (codes "news") ∷ []) ≡ All }
-    ensures of_a_tag_of_a_host { purge_scope_or_target (line (codes "Purge-Scope") (codes "host")
+    ensures by_default { purge_scope_of_request [] ≡ Target }
+    ensures of_a_tag { purge_scope_of_request (line (codes "Purge-Tag") (codes "news") ∷ []) ≡ All }
+    ensures of_a_tag_of_a_host { purge_scope_of_request (line (codes "Purge-Scope") (codes "host")
         ∷ line (codes "Purge-Tag") (codes "news") ∷ []) ≡ Host }
-    ensures of_a_prefix { purge_scope_or_target (line (codes "Purge-Scope") (codes "prefix") ∷ []) ≡ Prefix }
-    ensures of_a_host { purge_scope_or_target (line (codes "Purge-Scope") (codes "host") ∷ []) ≡ Host }
-    ensures of_all { purge_scope_or_target (line (codes "Purge-Scope") (codes "all") ∷ []) ≡ All }
+    ensures of_a_prefix { purge_scope_of_request (line (codes "Purge-Scope") (codes "prefix") ∷ []) ≡ Prefix }
+    ensures of_a_host { purge_scope_of_request (line (codes "Purge-Scope") (codes "host") ∷ []) ≡ Host }
+    ensures of_all { purge_scope_of_request (line (codes "Purge-Scope") (codes "all") ∷ []) ≡ All }
     ensures the_path { is_in_purge_scope Prefix (key_of_host_and_path (codes "h") 80 (codes "/a"))
         (key_of_host_and_path (codes "h") 80 (codes "/a")) ≡ true }
     ensures below { is_in_purge_scope Prefix (key_of_host_and_path (codes "h") 80 (codes "/a"))

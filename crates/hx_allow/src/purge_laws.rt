@@ -7,12 +7,13 @@ ghost use Rattle.hx_target.specs.declared.keys.Key.{Key};
 ghost use Rattle.hx_target.specs.declared.targets.Target.{Target as Aim};
 ghost use Rattle.hx_allow.specs.TableLines.{Table};
 ghost use Rattle.hx_allow.specs.Matching.{purge_key_of, verdict_of, verdict_of_request};
-ghost use Rattle.hx_allow.specs.Purges.{shows_purge_key, has_unknown_purge_order, is_at_or_below, is_in_purge_scope};
+ghost use Rattle.hx_allow.specs.Purges.{request_shows_purge_key, has_invalid_purge_field, is_at_or_below};
+ghost use Rattle.hx_allow.specs.Purges.{is_in_purge_scope};
 ghost use Rattle.hx_allow.specs.Scopes.{PathIsAtOrBelow, KeyIsOfSameTarget, KeyIsAtOrBelowAskedTarget};
 ghost use Rattle.hx_allow.specs.declared.purges.PurgeScope.TheVariants.{Target, Prefix, Host, All as Everything};
 ghost use Rattle.hx_allow.specs.Rows.{has_keys_of};
-ghost use Rattle.hx_allow.specs.Tables.{table_version_of, judge_table};
-ghost use Rattle.hx_allow.specs.Versions.{PurgeKeyIsOfPurgingLine};
+ghost use Rattle.hx_allow.specs.Tables.{table_version_of, config_or_fault_of_table};
+ghost use Rattle.hx_allow.specs.Versions.{OnlyPurgingLineHasPurgeKey};
 ghost use Rattle.hx_allow.specs.declared.values.TableVersion.TheVariants.{Four};
 ghost use Rattle.hx_allow.specs.declared.verdicts.Verdict.TheVariants.{DeniedBy, Purged};
 
@@ -21,25 +22,26 @@ ghost use Rattle.hx_allow.specs.declared.verdicts.Verdict.TheVariants.{DeniedBy,
 pub fn a_request_purges_where_it_shows_the_key_of_its_line()
     ensures purged { (table : Table) (method : List ℕ) (target : Aim) (fields : List Field) (line : ℕ) (key : List ℕ)
         → verdict_of table.lines method target ≡ DeniedBy line → purge_key_of table.lines line ≡ Some key
-        → shows_purge_key key fields ≡ true → has_unknown_purge_order fields ≡ false
+        → request_shows_purge_key key fields ≡ true → has_invalid_purge_field fields ≡ false
         → verdict_of_request table method target fields ≡ Purged line }
     ensures nothing_else { (table : Table) (method : List ℕ) (target : Aim) (fields : List Field) (line : ℕ)
         → verdict_of_request table method target fields ≡ Purged line
         → (verdict_of table.lines method target ≡ DeniedBy line)
-        × ((key : List ℕ) × (purge_key_of table.lines line ≡ Some key) × (shows_purge_key key fields ≡ true)
-        × (has_unknown_purge_order fields ≡ false)) }
+        × ((key : List ℕ) × (purge_key_of table.lines line ≡ Some key) × (request_shows_purge_key key fields ≡ true)
+        × (has_invalid_purge_field fields ≡ false)) }
     ensures denied { (table : Table) (method : List ℕ) (target : Aim) (fields : List Field) (line : ℕ) (key : List ℕ)
         → verdict_of table.lines method target ≡ DeniedBy line → purge_key_of table.lines line ≡ Some key
-        → (shows_purge_key key fields && not (has_unknown_purge_order fields)) ≡ false
+        → (request_shows_purge_key key fields && not (has_invalid_purge_field fields)) ≡ false
         → verdict_of_request table method target fields ≡ DeniedBy line }
 {}
 
 /// A line that has a key has no origin, and the key is 16 to 64 letters and digits. Before the fourth version none has
 /// one.
-pub fn a_line_with_a_key_purges()
-    ensures keys { (t : Members) (table : Table) → judge_table t ≡ Ok table → All PurgeKeyIsOfPurgingLine table.lines }
+pub fn a_line_with_purge_key_has_no_origin()
+    ensures keys { (t : Members) (table : Table) → config_or_fault_of_table t ≡ Ok table
+        → All OnlyPurgingLineHasPurgeKey table.lines }
     ensures earlier_versions { (t : Members) (table : Table) (line : ℕ) → has_keys_of (table_version_of t) Four ≡ false
-        → judge_table t ≡ Ok table → purge_key_of table.lines line ≡ None }
+        → config_or_fault_of_table t ≡ Ok table → purge_key_of table.lines line ≡ None }
 {}
 
 /// Without a scope a purge takes its target; by a prefix what is at and below its path, on its host and port; by a host

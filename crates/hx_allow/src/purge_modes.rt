@@ -1,6 +1,6 @@
 //! What a purge does with what it takes. No function here takes memory.
 ghost use Rattle.std.specs.Prelude.{◌≡◌, bytes_eq};
-ghost use Rattle.hx_allow.specs.PurgeModes.{purge_mode_of, purge_mode_or_remove};
+ghost use Rattle.hx_allow.specs.PurgeModes.{purge_mode_of_request, request_purge_mode_or_remove};
 
 use hx_fields::Fields;
 
@@ -14,8 +14,8 @@ pub enum PurgeMode {
 }
 
 /// What a request asks for, unless two lines ask for it or another word.
-pub(crate) fn purge_mode_of(fields: &Fields) -> Option<PurgeMode>
-    ensures { result ≡ purge_mode_of fields.now }
+pub(crate) fn purge_mode_of_request(fields: &Fields) -> Option<PurgeMode>
+    ensures { result ≡ purge_mode_of_request fields.now }
 {
     match fields.value(b"Purge-Mode") {
         None => Some(PurgeMode::Remove),
@@ -33,10 +33,10 @@ pub(crate) fn purge_mode_of(fields: &Fields) -> Option<PurgeMode>
 }
 
 /// What a request that purges does with what it takes: without a word that is known it removes it.
-pub fn purge_mode_or_remove(fields: &Fields) -> PurgeMode
-    ensures { result ≡ purge_mode_or_remove fields.now }
+pub fn request_purge_mode_or_remove(fields: &Fields) -> PurgeMode
+    ensures { result ≡ request_purge_mode_or_remove fields.now }
 {
-    match purge_mode_of(fields) {
+    match purge_mode_of_request(fields) {
         None => PurgeMode::Remove,
         Some(mode) => mode,
     }

@@ -1,14 +1,15 @@
 //! Which requests purge, and which targets. No function here takes memory.
 ghost use Rattle.std.specs.Prelude.{◌≡◌, ◌==◌, ◌≤◌, bytes_eq, length, take};
 ghost use Rattle.std.specs.List.{list_any, list_all};
-ghost use Rattle.hx_allow.specs.Purges.{is_letter_or_digit, is_purge_key, shows_purge_key, begins_with_purge_dash};
-ghost use Rattle.hx_allow.specs.Purges.{is_unknown_purge_field, has_unknown_purge_order, asks_to_purge};
-ghost use Rattle.hx_allow.specs.Purges.{purge_scope_of_word, default_purge_scope, purge_scope_of};
-ghost use Rattle.hx_allow.specs.Purges.{purge_scope_or_target};
+ghost use Rattle.hx_allow.specs.Purges.{is_letter_or_digit, is_purge_key, request_shows_purge_key};
+ghost use Rattle.hx_allow.specs.Purges.{begins_with_purge_dash};
+ghost use Rattle.hx_allow.specs.Purges.{is_unknown_purge_header_field, has_invalid_purge_field, asks_to_purge_with_key};
+ghost use Rattle.hx_allow.specs.Purges.{purge_scope_of_field_value, default_purge_scope, purge_scope_of_fields};
+ghost use Rattle.hx_allow.specs.Purges.{purge_scope_of_request};
 ghost use Rattle.hx_allow.specs.Purges.{path_before_query, ends_with_slash, text_begins_with, has_slash_behind_path};
 ghost use Rattle.hx_allow.specs.Purges.{is_at_or_below, is_in_purge_scope};
 
-use crate::purge_modes::purge_mode_of;
+use crate::purge_modes::purge_mode_of_request;
 use crate::tags::asks_for_one_purge_tag_or_none;
 use hx_fields::{Field, Fields, is_same_name, split_at_first_byte};
 use hx_target::Key;
@@ -61,8 +62,8 @@ fn is_same_secret(key: &[u8], given: &[u8]) -> bool
 }
 
 /// Whether one of the lines shows the key.
-fn shows_purge_key(key: &[u8], fields: &[Field]) -> bool
-    ensures { result ≡ shows_purge_key key.now fields.now }
+fn request_shows_purge_key(key: &[u8], fields: &[Field]) -> bool
+    ensures { result ≡ request_shows_purge_key key.now fields.now }
 {
     for line in fields {
         if is_same_name(line.name(), b"Purge-Key") && is_same_secret(key, line.value()) {
@@ -72,8 +73,8 @@ fn shows_purge_key(key: &[u8], fields: &[Field]) -> bool
     false
 }
 
-fn purge_scope_of_word(word: &[u8]) -> Option<PurgeScope>
-    ensures { result ≡ purge_scope_of_word word.now }
+fn purge_scope_of_field_value(word: &[u8]) -> Option<PurgeScope>
+    ensures { result ≡ purge_scope_of_field_value word.now }
 {
     if word == b"prefix".as_slice() {
         Some(PurgeScope::Prefix)
@@ -98,23 +99,23 @@ fn default_purge_scope(fields: &Fields) -> PurgeScope
 }
 
 /// The targets that a request purges, unless two lines name them or another word.
-fn purge_scope_of(fields: &Fields) -> Option<PurgeScope>
-    ensures { result ≡ purge_scope_of fields.now }
+fn purge_scope_of_fields(fields: &Fields) -> Option<PurgeScope>
+    ensures { result ≡ purge_scope_of_fields fields.now }
 {
     match fields.value(b"Purge-Scope") {
         None => Some(default_purge_scope(fields)),
         Some(_) => match fields.only_value(b"Purge-Scope") {
             None => None,
-            Some(word) => purge_scope_of_word(word),
+            Some(word) => purge_scope_of_field_value(word),
         },
     }
 }
 
 /// The targets that a request purges; its own, where none are named, or all where it asks for a tag.
-pub fn purge_scope_or_target(fields: &Fields) -> PurgeScope
-    ensures { result ≡ purge_scope_or_target fields.now }
+pub fn purge_scope_of_request(fields: &Fields) -> PurgeScope
+    ensures { result ≡ purge_scope_of_request fields.now }
 {
-    match purge_scope_of(fields) {
+    match purge_scope_of_fields(fields) {
         None => PurgeScope::Target,
         Some(scope) => scope,
     }
@@ -126,8 +127,8 @@ fn begins_with_purge_dash(name: &[u8]) -> bool
     6 <= name.len() && is_same_name(&name[..6], b"Purge-")
 }
 
-fn is_unknown_purge_field(field: &Field) -> bool
-    ensures { result ≡ is_unknown_purge_field field.now }
+fn is_unknown_purge_header_field(field: &Field) -> bool
+    ensures { result ≡ is_unknown_purge_header_field field.now }
 {
     let name = field.name();
     begins_with_purge_dash(name)
@@ -138,26 +139,28 @@ fn is_unknown_purge_field(field: &Field) -> bool
 }
 
 fn has_unknown_purge_field(fields: &[Field]) -> bool
-    ensures { result ≡ list_any is_unknown_purge_field fields.now }
+    ensures { result ≡ list_any is_unknown_purge_header_field fields.now }
 {
-    fields.iter().any(|field| is_unknown_purge_field(field))
+    fields
+        .iter()
+        .any(|field| is_unknown_purge_header_field(field))
 }
 
 /// Whether a request asks for what isn't known here.
-fn has_unknown_purge_order(fields: &Fields) -> bool
-    ensures { result ≡ has_unknown_purge_order fields.now }
+fn has_invalid_purge_field(fields: &Fields) -> bool
+    ensures { result ≡ has_invalid_purge_field fields.now }
 {
     has_unknown_purge_field(fields.as_slice())
-        || purge_scope_of(fields).is_none()
+        || purge_scope_of_fields(fields).is_none()
         || !asks_for_one_purge_tag_or_none(fields)
-        || purge_mode_of(fields).is_none()
+        || purge_mode_of_request(fields).is_none()
 }
 
 /// Whether a request with these lines purges over a line with this key.
-pub(crate) fn asks_to_purge(key: &[u8], fields: &Fields) -> bool
-    ensures { result ≡ asks_to_purge key.now fields.now }
+pub(crate) fn asks_to_purge_with_key(key: &[u8], fields: &Fields) -> bool
+    ensures { result ≡ asks_to_purge_with_key key.now fields.now }
 {
-    shows_purge_key(key, fields.as_slice()) && !has_unknown_purge_order(fields)
+    request_shows_purge_key(key, fields.as_slice()) && !has_invalid_purge_field(fields)
 }
 
 /// The path before the query.

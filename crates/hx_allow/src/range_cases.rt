@@ -5,11 +5,11 @@ ghost use Rattle.hx_policy.specs.Policies.{plain, default_policy_with_hidden_tag
 ghost use Rattle.hx_allow.specs.Examples.{key_with_text, line_table_with_keys, denying_line_table_with};
 ghost use Rattle.hx_allow.specs.Examples.{policy_of_version_four};
 ghost use Rattle.hx_allow.specs.LineTables.{line_fault, line_of_members};
-ghost use Rattle.hx_allow.specs.LineWords.{line_caches, key_has_text};
+ghost use Rattle.hx_allow.specs.LineWords.{line_caches, text_of_key_equals};
 ghost use Rattle.hx_allow.specs.Keys.{key_of_line_option};
 ghost use Rattle.hx_allow.specs.Rows.{has_keys_of};
 ghost use Rattle.hx_allow.specs.Values.{is_known_key};
-ghost use Rattle.hx_allow.specs.declared.config_faults.ConfigFault.TheVariants.{BadWord, UnknownKey};
+ghost use Rattle.hx_allow.specs.declared.config_faults.TableFault.TheVariants.{BadWord, UnknownKey};
 ghost use Rattle.hx_allow.specs.declared.config_faults.LineOption.TheVariants.{OriginTimeout, Ranges};
 ghost use Rattle.hx_allow.specs.declared.values.Scope.TheVariants.{Top, Line};
 ghost use Rattle.hx_allow.specs.declared.values.TableVersion.{TableVersion};
@@ -20,7 +20,7 @@ ghost use Rattle.hx_allow.specs.declared.values.TableVersion.TheVariants.{Three,
 #[tactic(auto, unfolding(crate::specs::LineTables::line_of_members))]
 pub fn version_four_forwards_ranges_only_if_told()
     ensures { (members : Members) → line_caches members ≡ true
-        → (line_of_members Four members).policy.forwards_ranges ≡ key_has_text (codes "ranges") (codes "forwarded") members }
+        → (line_of_members Four members).policy.forwards_ranges ≡ text_of_key_equals (codes "ranges") (codes "forwarded") members }
 {}
 
 /// Over a line of any version the whole is asked for, for who asks for a range of what is missing, exactly where the
@@ -28,7 +28,7 @@ pub fn version_four_forwards_ranges_only_if_told()
 #[tactic(auto, unfolding(crate::specs::LineTables::line_of_members))]
 pub fn ranges_are_filled_only_if_the_line_says_so()
     ensures { (version : TableVersion) (members : Members) → (line_of_members version members).policy.fills_ranges
-        ≡ (has_keys_of version Four && key_has_text (codes "ranges") (codes "filled") members) }
+        ≡ (has_keys_of version Four && text_of_key_equals (codes "ranges") (codes "filled") members) }
 {}
 
 /// The key `ranges`: one of three words, in version 4 alone, in each line that has an origin and its cache on, and
@@ -61,7 +61,7 @@ pub fn worked_words_on_ranges()
 /// In the fourth version ranges are cut from what is stored, unless the line says else, denies or has its cache off; in
 /// the third they are the origin's. They are filled where the line says that.
 #[tactic(auto, unfolding(crate::specs::LineTables::line_of_members))]
-pub fn worked_ranges_by_version()
+pub fn worked_ranges_by_config_version()
     ensures of_three { (line_of_members Three (line_table_with_keys [])).policy.forwards_ranges ≡ true }
     ensures of_four { (line_of_members Four (line_table_with_keys [])).policy.forwards_ranges ≡ false }
     ensures served { (line_of_members Four (line_table_with_keys (key_with_text (codes "ranges") (codes "served") ∷ []))).policy

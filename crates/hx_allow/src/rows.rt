@@ -4,11 +4,11 @@ ghost use Rattle.std.specs.Prelude.{◌≡◌};
 ghost use Rattle.hx_allow.specs.Rows.{number_key_row, word_row, row_of_line_key, fault_of_line_key, has_keys_of};
 ghost use Rattle.hx_allow.specs.Rows.{version_number};
 ghost use Rattle.hx_allow.specs.Rows.{row_of_required_key};
-ghost use Rattle.hx_allow.specs.Rows.{row_for_caching_lines, least_number, greatest_number, row_of_source};
-ghost use Rattle.hx_allow.specs.Rows.{kind_of_source};
+ghost use Rattle.hx_allow.specs.Rows.{row_for_caching_lines, least_number, greatest_number, definition_of_source_row};
+ghost use Rattle.hx_allow.specs.Rows.{value_kind_of_source_kind};
 ghost use Rattle.hx_allow.specs.Rows.{row_of_top_key, fault_of_top_key};
 
-use crate::config_faults::{ConfigFault, LineOption, NumberKey};
+use crate::config_faults::{LineOption, NumberKey, TableFault};
 use crate::limits::MOST_STORE_BYTES;
 use crate::values::TableVersion;
 use crate::values::TableVersion::{Four, One, Three, Two};
@@ -132,12 +132,12 @@ pub(crate) const LINE_KEYS: [LineKey; 24] = [
 ];
 
 /// What is told of a key that isn't known, with the keys that a version adds.
-pub(crate) const REQUIREMENT_OF_UNKNOWN_KEY: &str =
+pub(crate) const UNKNOWN_KEY_REQUIREMENT_TEXT: &str =
     "a key isn't known where it stands; correct its spelling or delete it: behind [[line]] keys belong to that line; cache needs version = 2, 3 or 4, lifetime, stale-if-error, set-cookie, errors, request-directives, wait and explain need version = 3 or 4, and max_store, error-lifetime, lifetime-most, cookies, session-cookies, conditions, loops, stale-while-revalidate, vary, origin-timeout, key, ranges and wait-timeout need version = 4";
 
 impl NumberKey {
     pub(crate) fn row(self) -> KeyDefinition
-        ensures { row_of_source result ≡ number_key_row self }
+        ensures { definition_of_source_row result ≡ number_key_row self }
     {
         match self {
             NumberKey::Version => KeyDefinition::needed("version", ValueKind::Version),
@@ -156,7 +156,7 @@ impl NumberKey {
 
 impl TopKey {
     pub(crate) fn row(self) -> KeyDefinition
-        ensures { row_of_source result ≡ row_of_top_key self }
+        ensures { definition_of_source_row result ≡ row_of_top_key self }
     {
         match self {
             TopKey::Name => KeyDefinition::needed("name", ValueKind::Name),
@@ -166,21 +166,21 @@ impl TopKey {
     }
 
     /// The fault of the key.
-    pub(crate) fn fault(self) -> ConfigFault
+    pub(crate) fn fault(self) -> TableFault
         ensures fault { result ≡ fault_of_top_key self }
-        ensures found_fault { ¬ (result ≡ ConfigFault.OutOfMemory) }
+        ensures found_fault { ¬ (result ≡ TableFault.OutOfMemory) }
     {
         match self {
-            TopKey::Name => ConfigFault::BadName,
-            TopKey::Number(key) => ConfigFault::BadNumber(key),
-            TopKey::Lines => ConfigFault::NoLines,
+            TopKey::Name => TableFault::BadName,
+            TopKey::Number(key) => TableFault::BadNumber(key),
+            TopKey::Lines => TableFault::NoLines,
         }
     }
 }
 
 impl LineOption {
     pub(crate) fn row(self) -> KeyDefinition
-        ensures { row_of_source result ≡ word_row self }
+        ensures { definition_of_source_row result ≡ word_row self }
     {
         match self {
             LineOption::Lifetime => KeyDefinition::of_caching(
@@ -283,7 +283,7 @@ impl LineOption {
 
 impl LineKey {
     pub(crate) fn row(self) -> KeyDefinition
-        ensures { row_of_source result ≡ row_of_line_key self }
+        ensures { definition_of_source_row result ≡ row_of_line_key self }
     {
         match self {
             LineKey::Host => KeyDefinition::needed("host", ValueKind::Host),
@@ -301,17 +301,17 @@ impl LineKey {
     }
 
     /// The fault of the key in the line with this number.
-    pub(crate) fn fault(self, number: u16) -> ConfigFault
+    pub(crate) fn fault(self, number: u16) -> TableFault
         ensures fault { result ≡ fault_of_line_key number self }
-        ensures found_fault { ¬ (result ≡ ConfigFault.OutOfMemory) }
+        ensures found_fault { ¬ (result ≡ TableFault.OutOfMemory) }
     {
         match self {
-            LineKey::Host => ConfigFault::BadHost(number),
-            LineKey::Methods => ConfigFault::BadMethod(number),
-            LineKey::Path => ConfigFault::BadPath(number),
-            LineKey::Origin => ConfigFault::BadOrigin(number),
-            LineKey::Cache => ConfigFault::BadCache(number),
-            LineKey::Word(word) => ConfigFault::BadWord(number, word),
+            LineKey::Host => TableFault::BadHost(number),
+            LineKey::Methods => TableFault::BadMethod(number),
+            LineKey::Path => TableFault::BadPath(number),
+            LineKey::Origin => TableFault::BadOrigin(number),
+            LineKey::Cache => TableFault::BadCache(number),
+            LineKey::Word(word) => TableFault::BadWord(number, word),
         }
     }
 }
@@ -319,7 +319,7 @@ impl LineKey {
 impl KeyDefinition {
     /// A key that each version has, and that has to stand.
     fn needed(key: &'static str, kind: ValueKind) -> KeyDefinition
-        ensures { row_of_source result ≡ row_of_required_key key.now (kind_of_source kind) }
+        ensures { definition_of_source_row result ≡ row_of_required_key key.now (value_kind_of_source_kind kind) }
     {
         KeyDefinition {
             key,
@@ -331,7 +331,8 @@ impl KeyDefinition {
 
     /// A key of a line that has an origin and its cache on.
     fn of_caching(key: &'static str, since: TableVersion, kind: ValueKind) -> KeyDefinition
-        ensures { row_of_source result ≡ row_for_caching_lines key.now since (kind_of_source kind) }
+        ensures { definition_of_source_row result
+            ≡ row_for_caching_lines key.now since (value_kind_of_source_kind kind) }
     {
         KeyDefinition {
             key,
@@ -372,8 +373,8 @@ impl TableVersion {
 impl ValueKind {
     /// The least and the greatest number of a kind.
     pub(crate) fn bounds(self) -> (u64, u64)
-        ensures least { result.0 ≡ least_number (kind_of_source self) }
-        ensures greatest { result.1 ≡ greatest_number (kind_of_source self) }
+        ensures least { result.0 ≡ least_number (value_kind_of_source_kind self) }
+        ensures greatest { result.1 ≡ greatest_number (value_kind_of_source_kind self) }
     {
         match self {
             ValueKind::Number(low, high) => (u64::from(low), u64::from(high)),

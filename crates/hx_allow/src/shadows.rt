@@ -83,7 +83,7 @@ fn line_covers_line(first: &Line, later: &Line) -> bool
 }
 
 /// The number of the first of at most 4,096 lines that takes all of a later one; they are counted from 1.
-pub(crate) fn first_line_covering(front: &[Line], later: &Line) -> Option<u16>
+pub(crate) fn first_line_covering_later_line(front: &[Line], later: &Line) -> Option<u16>
     requires { length front.now < 4097 }
     ensures { result ≡ position_from (λ first. line_covers_line first later.now) 1 front.now }
 {

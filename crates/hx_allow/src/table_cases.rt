@@ -4,19 +4,21 @@ ghost use Rattle.std.specs.Prelude.{◌≡◌, ◌∷◌, [], Some, None, Ok, Er
 ghost use Rattle.toml.specs.Data.{array, boolean, integer, no_items, no_members, string, table};
 ghost use Rattle.toml.specs.Parse.{parse_document};
 ghost use Rattle.hx_policy.specs.Policies.{plain};
-ghost use Rattle.hx_allow.specs.Examples.{denying_line_table_with, line_table, repeated_value, key_with_method};
-ghost use Rattle.hx_allow.specs.Examples.{key_with_number, array_of_values, table_of_pairs, line_with_method};
+ghost use Rattle.hx_allow.specs.Examples.{denying_line_table_with, line_table, repeated_value};
+ghost use Rattle.hx_allow.specs.Examples.{methods_key_of_one_method};
+ghost use Rattle.hx_allow.specs.Examples.{key_with_number, array_of_values, table_of_pairs, example_line_with_method};
 ghost use Rattle.hx_allow.specs.Examples.{origin_8081, key_with_text, table_with_lines, table_with_bounds};
 ghost use Rattle.hx_allow.specs.Examples.{line_table_with_keys};
 ghost use Rattle.hx_allow.specs.Examples.{line_of_version_four, policy_of_version_four};
 ghost use Rattle.hx_allow.specs.LineTables.{line_fault, line_of_members, first_fault_of_lines, lines_of_tables};
-ghost use Rattle.hx_allow.specs.Tables.{judge_table, most_lines_of_version, line_items_of_table, table_version_of};
-ghost use Rattle.hx_allow.specs.Tables.{fault_may_be_out_of_memory};
-ghost use Rattle.hx_allow.specs.declared.config_faults.ConfigFault.TheVariants.{UnknownKey, BadName, BadNumber};
-ghost use Rattle.hx_allow.specs.declared.config_faults.ConfigFault.TheVariants.{BadHost};
-ghost use Rattle.hx_allow.specs.declared.config_faults.ConfigFault.TheVariants.{BadMethod, BadPath, BadOrigin, NoLines};
-ghost use Rattle.hx_allow.specs.declared.config_faults.ConfigFault.TheVariants.{BadCache, MethodInLowerCase};
-ghost use Rattle.hx_allow.specs.declared.config_faults.ConfigFault.TheVariants.{StarInPath};
+ghost use Rattle.hx_allow.specs.Tables.{config_or_fault_of_table, most_lines_of_version, line_tables_of_toml};
+ghost use Rattle.hx_allow.specs.Tables.{table_version_of};
+ghost use Rattle.hx_allow.specs.Tables.{out_of_memory_may_precede_fault};
+ghost use Rattle.hx_allow.specs.declared.config_faults.TableFault.TheVariants.{UnknownKey, BadName, BadNumber};
+ghost use Rattle.hx_allow.specs.declared.config_faults.TableFault.TheVariants.{BadHost};
+ghost use Rattle.hx_allow.specs.declared.config_faults.TableFault.TheVariants.{BadMethod, BadPath, BadOrigin, NoLines};
+ghost use Rattle.hx_allow.specs.declared.config_faults.TableFault.TheVariants.{BadCache, MethodInLowerCase};
+ghost use Rattle.hx_allow.specs.declared.config_faults.TableFault.TheVariants.{StarInPath};
 ghost use Rattle.hx_allow.specs.declared.config_faults.NumberKey.TheVariants.{Version, Capacity, MaxBody, MaxStored};
 ghost use Rattle.hx_allow.specs.declared.config_faults.NumberKey.TheVariants.{MaxStore};
 ghost use Rattle.hx_allow.specs.declared.line_hosts.LineHost.TheVariants.{Every};
@@ -38,7 +40,7 @@ pub fn worked_order_of_line_faults()
 /// What the fourth version refuses of a line whose keys are good: a method in lower case, and a `*`
 /// in a path.
 #[tactic(auto, unfolding(crate::specs::LineTables::line_fault, crate::specs::LineTables::is_line_host, crate::specs::LineTables::is_line_method, crate::specs::LineTables::is_line_path, crate::specs::Addresses::address_of, hx_target::specs::Hosts::is_host, hx_target::specs::Hosts::number_of_few_digits, hx_target::specs::Paths::has_dot_segment))]
-pub fn worked_spellings_of_lines()
+pub fn worked_refused_spellings_of_lines()
     ensures none { line_fault Four 3 (line_table (codes "h") (codes "GET") (codes "/a") (codes "deny")) ≡ None }
     ensures every { line_fault Four 3 (line_table (codes "*") (codes "*") (codes "/") (codes "deny")) ≡ None }
     ensures method { line_fault Four 3 (line_table (codes "h") (codes "get") (codes "/a") (codes "deny"))
@@ -63,11 +65,14 @@ pub fn worked_missing_keys_of_a_line()
     ensures methods { line_fault One 1 (table_of_pairs (key_with_text (codes "host") (codes "*") ∷ key_with_text
         (codes "origin") (codes "deny")
         ∷ key_with_text (codes "path") (codes "/") ∷ [])) ≡ Some (BadMethod 1) }
-    ensures path { line_fault One 1 (table_of_pairs (key_with_text (codes "host") (codes "*") ∷ key_with_method (codes "GET")
+    ensures path { line_fault One 1
+        (table_of_pairs (key_with_text (codes "host") (codes "*") ∷ methods_key_of_one_method (codes "GET")
         ∷ key_with_text (codes "origin") (codes "deny") ∷ [])) ≡ Some (BadPath 1) }
-    ensures origin { line_fault One 1 (table_of_pairs (key_with_text (codes "host") (codes "*") ∷ key_with_method (codes "GET")
+    ensures origin { line_fault One 1
+        (table_of_pairs (key_with_text (codes "host") (codes "*") ∷ methods_key_of_one_method (codes "GET")
         ∷ key_with_text (codes "path") (codes "/") ∷ [])) ≡ Some (BadOrigin 1) }
-    ensures no_text { line_fault One 1 (table_of_pairs (key_with_number (codes "host") 1 ∷ key_with_method (codes "GET")
+    ensures no_text { line_fault One 1
+        (table_of_pairs (key_with_number (codes "host") 1 ∷ methods_key_of_one_method (codes "GET")
         ∷ key_with_text (codes "origin") (codes "deny") ∷ key_with_text (codes "path") (codes "/") ∷ [])) ≡ Some (BadHost 1) }
     ensures no_list { line_fault One 1 (table_of_pairs (key_with_text (codes "host") (codes "*") ∷ key_with_text
         (codes "methods") (codes "GET")
@@ -93,7 +98,7 @@ pub fn worked_cache_of_a_line()
         ≡ Some (UnknownKey (codes "cache")) }
     ensures behind_the_origin { line_fault Two 1
         (table_of_pairs (key_with_text (codes "cache") (codes "no") ∷ key_with_text (codes "host") (codes "*")
-        ∷ key_with_method (codes "GET")
+        ∷ methods_key_of_one_method (codes "GET")
         ∷ key_with_text (codes "origin") (codes "allow") ∷ key_with_text (codes "path") (codes "/") ∷ [])) ≡ Some (BadOrigin 1) }
 {}
 
@@ -101,13 +106,13 @@ pub fn worked_cache_of_a_line()
 #[tactic(auto, unfolding(crate::specs::LineTables::line_of_members, crate::specs::Addresses::address_of, hx_target::specs::Hosts::number_of_few_digits))]
 pub fn worked_lines()
     ensures every_host { line_of_members Three (line_table (codes "*") (codes "GET") (codes "/") (codes "127.0.0.1:8081"))
-        ≡ line_with_method None (codes "GET") (codes "/") origin_8081 }
+        ≡ example_line_with_method None (codes "GET") (codes "/") origin_8081 }
     ensures one_host { line_of_members Three (line_table (codes "x") (codes "*") (codes "/%61dmin%2f") (codes "deny"))
-        ≡ line_with_method (Some (codes "x")) (codes "*") (codes "/admin%2F") None }
+        ≡ example_line_with_method (Some (codes "x")) (codes "*") (codes "/admin%2F") None }
     ensures off { line_of_members Three (line_table_with_keys (key_with_text (codes "cache") (codes "off") ∷ []))
-        ≡ record (line_with_method None (codes "GET") (codes "/") origin_8081) { policy = plain false } }
+        ≡ record (example_line_with_method None (codes "GET") (codes "/") origin_8081) { policy = plain false } }
     ensures on { line_of_members Three (line_table_with_keys (key_with_text (codes "cache") (codes "on") ∷ []))
-        ≡ line_with_method None (codes "GET") (codes "/") origin_8081 }
+        ≡ example_line_with_method None (codes "GET") (codes "/") origin_8081 }
     ensures two_methods { line_of_members Three (table_of_pairs (key_with_text (codes "host") (codes "*")
         ∷ (codes "methods", array (array_of_values (string (codes "GET") ∷ string (codes "HEAD") ∷ [])))
         ∷ key_with_text (codes "origin") (codes "deny") ∷ key_with_text (codes "path") (codes "/") ∷ [])) ≡ record {
@@ -139,28 +144,28 @@ pub fn worked_order_of_lines()
     ensures both { lines_of_tables Three (array_of_values (table (denying_line_table_with [])
         ∷ table (line_table_with_keys [])
         ∷ []))
-        ≡ line_with_method None (codes "GET") (codes "/") None ∷ line_with_method None (codes "GET")
+        ≡ example_line_with_method None (codes "GET") (codes "/") None ∷ example_line_with_method None (codes "GET")
         (codes "/") origin_8081 ∷ [] }
 {}
 
 /// A table has 1 to 256 lines, or 1 to 4,096 in the fourth version, each of which is a table.
-pub fn a_table_has_1_to_256_lines()
-    ensures one { line_items_of_table (table_with_lines 1 2 (repeated_value 1 (table no_members))) ≡ Some
+pub fn a_table_has_1_to_256_or_4096_lines()
+    ensures one { line_tables_of_toml (table_with_lines 1 2 (repeated_value 1 (table no_members))) ≡ Some
         (repeated_value 1 (table no_members)) }
-    ensures of_256 { line_items_of_table (table_with_lines 1 2 (repeated_value 256 (table no_members))) ≡ Some
+    ensures of_256 { line_tables_of_toml (table_with_lines 1 2 (repeated_value 256 (table no_members))) ≡ Some
         (repeated_value 256 (table no_members)) }
-    ensures of_257 { line_items_of_table (table_with_lines 1 2 (repeated_value 257 (table no_members))) ≡ None }
-    ensures of_257_in_three { line_items_of_table (table_with_lines 3 2 (repeated_value 257 (table no_members)))
+    ensures of_257 { line_tables_of_toml (table_with_lines 1 2 (repeated_value 257 (table no_members))) ≡ None }
+    ensures of_257_in_three { line_tables_of_toml (table_with_lines 3 2 (repeated_value 257 (table no_members)))
         ≡ None }
-    ensures of_257_in_four { line_items_of_table (table_with_lines 4 2 (repeated_value 257 (table no_members))) ≡ Some
+    ensures of_257_in_four { line_tables_of_toml (table_with_lines 4 2 (repeated_value 257 (table no_members))) ≡ Some
         (repeated_value 257 (table no_members)) }
     ensures limits { map most_lines_of_version (One ∷ Two ∷ Three ∷ Four ∷ []) ≡ 256 ∷ 256 ∷ 256 ∷ 4096 ∷ [] }
-    ensures none { line_items_of_table (table_with_lines 1 2 no_items) ≡ None }
-    ensures a_text { line_items_of_table (table_with_lines 1 2 (array_of_values (table no_members
+    ensures none { line_tables_of_toml (table_with_lines 1 2 no_items) ≡ None }
+    ensures a_text { line_tables_of_toml (table_with_lines 1 2 (array_of_values (table no_members
         ∷ string (codes "line") ∷ [])))
         ≡ None }
-    ensures missing { line_items_of_table no_members ≡ None }
-    ensures one_table { line_items_of_table (table_of_pairs ((codes "line", table no_members) ∷ [])) ≡ None }
+    ensures missing { line_tables_of_toml no_members ≡ None }
+    ensures one_table { line_tables_of_toml (table_of_pairs ((codes "line", table no_members) ∷ [])) ≡ None }
 {}
 
 /// The version of a table decides on the keys of its lines.
@@ -174,59 +179,68 @@ pub fn worked_versions_of_tables()
 {}
 
 /// The faults of a table in their order: with each that is mended the next one is told.
-#[tactic(auto, unfolding(crate::specs::Tables::judge_table, crate::specs::Tables::table_fault, crate::specs::Tables::is_name, crate::specs::LineTables::line_fault, crate::specs::LineTables::is_line_host, crate::specs::LineTables::is_line_method, crate::specs::LineTables::is_line_path, crate::specs::Addresses::address_of, hx_target::specs::Hosts::is_host, hx_target::specs::Hosts::number_of_few_digits, hx_target::specs::Paths::has_dot_segment))]
+#[tactic(auto, unfolding(crate::specs::Tables::config_or_fault_of_table, crate::specs::Tables::table_fault, crate::specs::Tables::is_name, crate::specs::LineTables::line_fault, crate::specs::LineTables::is_line_host, crate::specs::LineTables::is_line_method, crate::specs::LineTables::is_line_path, crate::specs::Addresses::address_of, hx_target::specs::Hosts::is_host, hx_target::specs::Hosts::number_of_few_digits, hx_target::specs::Paths::has_dot_segment))]
 pub fn worked_order_of_table_faults()
-    ensures unknown { judge_table (table_of_pairs (key_with_number (codes "colour") 1 ∷ [])) ≡ Err (UnknownKey (codes "colour")) }
-    ensures name { judge_table no_members ≡ Err BadName }
-    ensures bad_name { judge_table (table_of_pairs (key_with_text (codes "name") (codes "Edge") ∷ [])) ≡ Err BadName }
-    ensures version { judge_table (table_of_pairs (key_with_text (codes "name") (codes "edge") ∷ [])) ≡ Err
+    ensures unknown { config_or_fault_of_table (table_of_pairs (key_with_number (codes "colour") 1 ∷ []))
+        ≡ Err (UnknownKey (codes "colour")) }
+    ensures name { config_or_fault_of_table no_members ≡ Err BadName }
+    ensures bad_name { config_or_fault_of_table (table_of_pairs (key_with_text (codes "name") (codes "Edge") ∷ []))
+        ≡ Err BadName }
+    ensures version { config_or_fault_of_table (table_of_pairs (key_with_text (codes "name") (codes "edge") ∷ [])) ≡ Err
         (BadNumber Version) }
-    ensures capacity { judge_table (table_of_pairs (key_with_text (codes "name") (codes "edge") ∷ key_with_number
+    ensures capacity { config_or_fault_of_table (table_of_pairs (key_with_text (codes "name") (codes "edge") ∷ key_with_number
         (codes "version") 1 ∷ []))
         ≡ Err (BadNumber Capacity) }
-    ensures max_body { judge_table (table_of_pairs (key_with_number (codes "capacity") 2 ∷ key_with_text (codes "name") (codes "edge")
+    ensures max_body { config_or_fault_of_table
+        (table_of_pairs (key_with_number (codes "capacity") 2 ∷ key_with_text (codes "name") (codes "edge")
         ∷ key_with_number (codes "version") 1 ∷ [])) ≡ Err (BadNumber MaxBody) }
-    ensures max_stored { judge_table (table_of_pairs (key_with_number (codes "capacity") 2 ∷ key_with_number (codes "max_body") 0
+    ensures max_stored { config_or_fault_of_table
+        (table_of_pairs (key_with_number (codes "capacity") 2 ∷ key_with_number (codes "max_body") 0
         ∷ key_with_text (codes "name") (codes "edge") ∷ key_with_number (codes "version") 1 ∷ [])) ≡ Err (BadNumber MaxStored) }
-    ensures no_lines { judge_table (table_of_pairs (key_with_number (codes "capacity") 2 ∷ key_with_number (codes "max_body") 0
+    ensures no_lines { config_or_fault_of_table
+        (table_of_pairs (key_with_number (codes "capacity") 2 ∷ key_with_number (codes "max_body") 0
         ∷ key_with_number (codes "max_stored") 0 ∷ key_with_text (codes "name") (codes "edge") ∷ key_with_number (codes "version") 1 ∷ []))
         ≡ Err NoLines }
-    ensures empty_lines { judge_table (table_with_lines 1 2 no_items) ≡ Err NoLines }
-    ensures first_line { judge_table (table_with_lines 1 2 (repeated_value 1 (table no_members))) ≡ Err (BadHost 1) }
-    ensures cache_of_one { judge_table (table_with_lines 1 2
+    ensures empty_lines { config_or_fault_of_table (table_with_lines 1 2 no_items) ≡ Err NoLines }
+    ensures first_line { config_or_fault_of_table (table_with_lines 1 2 (repeated_value 1 (table no_members)))
+        ≡ Err (BadHost 1) }
+    ensures cache_of_one { config_or_fault_of_table (table_with_lines 1 2
         (repeated_value 1 (table (line_table_with_keys (key_with_text (codes "cache") (codes "on") ∷ []))))) ≡ Err
         (UnknownKey (codes "cache")) }
-    ensures cache_of_two { judge_table (table_with_lines 2 2
+    ensures cache_of_two { config_or_fault_of_table (table_with_lines 2 2
         (repeated_value 1 (table (line_table_with_keys (key_with_text (codes "cache") (codes "no") ∷ []))))) ≡ Err
         (BadCache 1) }
-    ensures capacity_0 { judge_table (table_with_lines 1 0 (repeated_value 1 (table (line_table_with_keys [])))) ≡ Err
+    ensures capacity_0 { config_or_fault_of_table
+        (table_with_lines 1 0 (repeated_value 1 (table (line_table_with_keys [])))) ≡ Err
         (BadNumber Capacity) }
-    ensures version_5 { judge_table (table_with_lines 5 2 (repeated_value 1 (table (line_table_with_keys [])))) ≡ Err
+    ensures version_5 { config_or_fault_of_table
+        (table_with_lines 5 2 (repeated_value 1 (table (line_table_with_keys [])))) ≡ Err
         (BadNumber Version) }
 {}
 
 /// What a table without a fault says.
-#[tactic(auto, unfolding(crate::specs::Tables::judge_table, crate::specs::Tables::table_fault, crate::specs::Tables::table_of_members, crate::specs::Tables::is_name, crate::specs::LineTables::line_fault, crate::specs::LineTables::line_of_members, crate::specs::LineTables::is_line_host, crate::specs::LineTables::is_line_method, crate::specs::LineTables::is_line_path, crate::specs::Addresses::address_of, hx_target::specs::Hosts::is_host, hx_target::specs::Hosts::number_of_few_digits, hx_target::specs::Paths::has_dot_segment))]
+#[tactic(auto, unfolding(crate::specs::Tables::config_or_fault_of_table, crate::specs::Tables::table_fault, crate::specs::Tables::table_of_members, crate::specs::Tables::is_name, crate::specs::LineTables::line_fault, crate::specs::LineTables::line_of_members, crate::specs::LineTables::is_line_host, crate::specs::LineTables::is_line_method, crate::specs::LineTables::is_line_path, crate::specs::Addresses::address_of, hx_target::specs::Hosts::is_host, hx_target::specs::Hosts::number_of_few_digits, hx_target::specs::Paths::has_dot_segment))]
 pub fn worked_tables()
-    ensures first { judge_table (table_with_lines 1 2 (repeated_value 1 (table (line_table_with_keys []))))
+    ensures first { config_or_fault_of_table (table_with_lines 1 2 (repeated_value 1 (table (line_table_with_keys []))))
         ≡ Ok (record {
           name = codes "edge";
           capacity = 2;
           max_body = 1000;
           max_stored = 1000;
           max_store = None;
-          lines = line_with_method None (codes "GET") (codes "/") origin_8081 ∷ [];
+          lines = example_line_with_method None (codes "GET") (codes "/") origin_8081 ∷ [];
         }) }
-    ensures second { judge_table (table_with_lines 2 65536
+    ensures second { config_or_fault_of_table (table_with_lines 2 65536
         (repeated_value 1 (table (line_table_with_keys (key_with_text (codes "cache") (codes "off") ∷ []))))) ≡ Ok (record {
           name = codes "edge";
           capacity = 65536;
           max_body = 1000;
           max_stored = 1000;
           max_store = None;
-          lines = record (line_with_method None (codes "GET") (codes "/") origin_8081) { policy = plain false } ∷ [];
+          lines = record (example_line_with_method None (codes "GET") (codes "/") origin_8081) { policy = plain false }
+              ∷ [];
         }) }
-    ensures limits { judge_table (table_of_pairs (key_with_number (codes "capacity") 1
+    ensures limits { config_or_fault_of_table (table_of_pairs (key_with_number (codes "capacity") 1
         ∷ (codes "line", array (repeated_value 1 (table (line_table_with_keys [])))) ∷ key_with_number (codes "max_body") 7
         ∷ key_with_number (codes "max_stored") 5 ∷ key_with_text (codes "name") (codes "a") ∷ key_with_number (codes "version") 1 ∷ []))
         ≡ Ok (record {
@@ -235,39 +249,42 @@ pub fn worked_tables()
           max_body = 7;
           max_stored = 5;
           max_store = None;
-          lines = line_with_method None (codes "GET") (codes "/") origin_8081 ∷ [];
+          lines = example_line_with_method None (codes "GET") (codes "/") origin_8081 ∷ [];
         }) }
 {}
 
 /// The bound of the store's bytes: a key of version 4, which needn't stand. It is looked at after `max_stored` and
 /// before the lines.
-#[tactic(auto, unfolding(crate::specs::Tables::judge_table, crate::specs::Tables::table_fault, crate::specs::Tables::is_name, crate::specs::LineTables::line_fault, crate::specs::LineTables::is_line_host, crate::specs::LineTables::is_line_method, crate::specs::LineTables::is_line_path, crate::specs::Addresses::address_of, hx_target::specs::Hosts::is_host, hx_target::specs::Hosts::number_of_few_digits, hx_target::specs::Paths::has_dot_segment))]
+#[tactic(auto, unfolding(crate::specs::Tables::config_or_fault_of_table, crate::specs::Tables::table_fault, crate::specs::Tables::is_name, crate::specs::LineTables::line_fault, crate::specs::LineTables::is_line_host, crate::specs::LineTables::is_line_method, crate::specs::LineTables::is_line_path, crate::specs::Addresses::address_of, hx_target::specs::Hosts::is_host, hx_target::specs::Hosts::number_of_few_digits, hx_target::specs::Paths::has_dot_segment))]
 pub fn worked_faults_of_store_bound()
-    ensures below { judge_table (table_with_bounds 4 1000 (integer (pos 65535)) no_items) ≡ Err (BadNumber MaxStore) }
-    ensures above { judge_table (table_with_bounds 4 1000 (integer (pos 1099511627777)) no_items)
+    ensures below { config_or_fault_of_table (table_with_bounds 4 1000 (integer (pos 65535)) no_items)
         ≡ Err (BadNumber MaxStore) }
-    ensures a_text { judge_table (table_with_bounds 4 1000 (string (codes "65536")) no_items) ≡ Err (BadNumber MaxStore) }
-    ensures below_max_stored { judge_table (table_with_bounds 4 65537 (integer (pos 65536)) no_items)
+    ensures above { config_or_fault_of_table (table_with_bounds 4 1000 (integer (pos 1099511627777)) no_items)
         ≡ Err (BadNumber MaxStore) }
-    ensures behind_max_stored { judge_table (table_with_bounds 4 16777217 (integer (pos 1)) no_items)
+    ensures a_text { config_or_fault_of_table (table_with_bounds 4 1000 (string (codes "65536")) no_items)
+        ≡ Err (BadNumber MaxStore) }
+    ensures below_max_stored { config_or_fault_of_table (table_with_bounds 4 65537 (integer (pos 65536)) no_items)
+        ≡ Err (BadNumber MaxStore) }
+    ensures behind_max_stored { config_or_fault_of_table (table_with_bounds 4 16777217 (integer (pos 1)) no_items)
         ≡ Err (BadNumber MaxStored) }
-    ensures least { judge_table (table_with_bounds 4 65536 (integer (pos 65536)) no_items) ≡ Err NoLines }
-    ensures most { judge_table (table_with_bounds 4 1000 (integer (pos 1099511627776)) no_items) ≡ Err NoLines }
-    ensures missing { judge_table (table_with_lines 4 2 no_items) ≡ Err NoLines }
-    ensures of_three { judge_table (table_with_bounds 3 1000 (integer (pos 65536)) no_items)
+    ensures least { config_or_fault_of_table (table_with_bounds 4 65536 (integer (pos 65536)) no_items) ≡ Err NoLines }
+    ensures most { config_or_fault_of_table (table_with_bounds 4 1000 (integer (pos 1099511627776)) no_items)
+        ≡ Err NoLines }
+    ensures missing { config_or_fault_of_table (table_with_lines 4 2 no_items) ≡ Err NoLines }
+    ensures of_three { config_or_fault_of_table (table_with_bounds 3 1000 (integer (pos 65536)) no_items)
         ≡ Err (UnknownKey (codes "max_store")) }
-    ensures of_two { judge_table (table_with_bounds 2 1000 (integer (pos 65536)) no_items)
+    ensures of_two { config_or_fault_of_table (table_with_bounds 2 1000 (integer (pos 65536)) no_items)
         ≡ Err (UnknownKey (codes "max_store")) }
-    ensures of_one { judge_table (table_with_bounds 1 1000 (integer (pos 65536)) no_items)
+    ensures of_one { config_or_fault_of_table (table_with_bounds 1 1000 (integer (pos 65536)) no_items)
         ≡ Err (UnknownKey (codes "max_store")) }
-    ensures of_five { judge_table (table_with_bounds 5 1000 (integer (pos 65536)) no_items)
+    ensures of_five { config_or_fault_of_table (table_with_bounds 5 1000 (integer (pos 65536)) no_items)
         ≡ Err (UnknownKey (codes "max_store")) }
 {}
 
 /// What tables of version 4 say of the bytes of the store.
-#[tactic(auto, unfolding(crate::specs::Tables::judge_table, crate::specs::Tables::table_fault, crate::specs::Tables::table_of_members, crate::specs::Tables::is_name, crate::specs::LineTables::line_fault, crate::specs::LineTables::line_of_members, crate::specs::LineTables::is_line_host, crate::specs::LineTables::is_line_method, crate::specs::LineTables::is_line_path, crate::specs::Addresses::address_of, hx_target::specs::Hosts::is_host, hx_target::specs::Hosts::number_of_few_digits, hx_target::specs::Paths::has_dot_segment))]
+#[tactic(auto, unfolding(crate::specs::Tables::config_or_fault_of_table, crate::specs::Tables::table_fault, crate::specs::Tables::table_of_members, crate::specs::Tables::is_name, crate::specs::LineTables::line_fault, crate::specs::LineTables::line_of_members, crate::specs::LineTables::is_line_host, crate::specs::LineTables::is_line_method, crate::specs::LineTables::is_line_path, crate::specs::Addresses::address_of, hx_target::specs::Hosts::is_host, hx_target::specs::Hosts::number_of_few_digits, hx_target::specs::Paths::has_dot_segment))]
 pub fn worked_store_bounds()
-    ensures bounded { judge_table (table_with_bounds 4 1000 (integer (pos 65536)) (repeated_value 1
+    ensures bounded { config_or_fault_of_table (table_with_bounds 4 1000 (integer (pos 65536)) (repeated_value 1
         (table (line_table_with_keys [])))) ≡ Ok (record {
           name = codes "edge";
           capacity = 2;
@@ -276,7 +293,8 @@ pub fn worked_store_bounds()
           max_store = Some 65536;
           lines = line_of_version_four ∷ [];
         }) }
-    ensures unbounded { judge_table (table_with_lines 4 2 (repeated_value 1 (table (line_table_with_keys []))))
+    ensures unbounded { config_or_fault_of_table
+        (table_with_lines 4 2 (repeated_value 1 (table (line_table_with_keys []))))
         ≡ Ok (record {
           name = codes "edge";
           capacity = 2;
@@ -285,7 +303,7 @@ pub fn worked_store_bounds()
           max_store = None;
           lines = line_of_version_four ∷ [];
         }) }
-    ensures with_a_word { judge_table (table_with_lines 4 2 (repeated_value 1
+    ensures with_a_word { config_or_fault_of_table (table_with_lines 4 2 (repeated_value 1
         (table (line_table_with_keys (key_with_number (codes "lifetime") 60 ∷ []))))) ≡ Ok (record {
           name = codes "edge";
           capacity = 2;
@@ -298,19 +316,21 @@ pub fn worked_store_bounds()
 
 /// Of the faults, that of an unknown key alone allocates, for the bytes of the key, before it is told.
 pub fn worked_faults_that_allocate()
-    ensures none { fault_may_be_out_of_memory None ≡ true }
-    ensures unknown { fault_may_be_out_of_memory (Some (UnknownKey [])) ≡ true }
-    ensures name { fault_may_be_out_of_memory (Some BadName) ≡ false }
-    ensures number { fault_may_be_out_of_memory (Some (BadNumber Version)) ≡ false }
-    ensures lines { fault_may_be_out_of_memory (Some NoLines) ≡ false }
-    ensures host { fault_may_be_out_of_memory (Some (BadHost 1)) ≡ false }
+    ensures none { out_of_memory_may_precede_fault None ≡ true }
+    ensures unknown { out_of_memory_may_precede_fault (Some (UnknownKey [])) ≡ true }
+    ensures name { out_of_memory_may_precede_fault (Some BadName) ≡ false }
+    ensures number { out_of_memory_may_precede_fault (Some (BadNumber Version)) ≡ false }
+    ensures lines { out_of_memory_may_precede_fault (Some NoLines) ≡ false }
+    ensures host { out_of_memory_may_precede_fault (Some (BadHost 1)) ≡ false }
 {}
 
 /// The faults of whole texts: a key that isn't known in front of others, a path that ends with a slash, and no line.
-#[tactic(auto, unfolding(toml::proofs::OnLiterals::toml_on_literals, crate::specs::Tables::judge_table, crate::specs::Tables::table_fault, crate::specs::Tables::is_name, crate::specs::LineTables::line_fault, crate::specs::LineTables::is_line_host, crate::specs::LineTables::is_line_method, crate::specs::LineTables::is_line_path, crate::specs::Addresses::address_of, hx_target::specs::Hosts::is_host, hx_target::specs::Hosts::number_of_few_digits, hx_target::specs::Paths::has_dot_segment))]
+#[tactic(auto, unfolding(toml::proofs::OnLiterals::toml_on_literals, crate::specs::Tables::config_or_fault_of_table, crate::specs::Tables::table_fault, crate::specs::Tables::is_name, crate::specs::LineTables::line_fault, crate::specs::LineTables::is_line_host, crate::specs::LineTables::is_line_method, crate::specs::LineTables::is_line_path, crate::specs::Addresses::address_of, hx_target::specs::Hosts::is_host, hx_target::specs::Hosts::number_of_few_digits, hx_target::specs::Paths::has_dot_segment))]
 pub fn worked_faults_of_texts()
-    ensures unknown { option_map judge_table (parse_document (codes "colour = 1\nversion = 1\nname = \"edge\"\ncapacity = 2\nmax_body = 1000\nmax_stored = 1000\n\n[[line]]\nhost = \"*\"\nmethods = [\"GET\", \"HEAD\", \"POST\"]\npath = \"/\"\norigin = \"127.0.0.1:8081\"\n")) ≡ Some (Err (UnknownKey (codes "colour"))) }
-    ensures least { option_map judge_table (parse_document (codes "zeta = 1\nalpha = 2\n")) ≡ Some (Err (UnknownKey (codes "alpha"))) }
-    ensures path { option_map judge_table (parse_document (codes "version = 1\nname = \"edge\"\ncapacity = 2\nmax_body = 1000\nmax_stored = 1000\n\n[[line]]\nhost = \"*\"\nmethods = [\"GET\"]\npath = \"/a/\"\norigin = \"127.0.0.1:8081\"\n")) ≡ Some (Err (BadPath 1)) }
-    ensures no_lines { option_map judge_table (parse_document (codes "version = 1\nname = \"edge\"\ncapacity = 2\nmax_body = 1000\nmax_stored = 1000\n\n")) ≡ Some (Err NoLines) }
+    ensures unknown { option_map config_or_fault_of_table
+        (parse_document (codes "colour = 1\nversion = 1\nname = \"edge\"\ncapacity = 2\nmax_body = 1000\nmax_stored = 1000\n\n[[line]]\nhost = \"*\"\nmethods = [\"GET\", \"HEAD\", \"POST\"]\npath = \"/\"\norigin = \"127.0.0.1:8081\"\n")) ≡ Some (Err (UnknownKey (codes "colour"))) }
+    ensures least { option_map config_or_fault_of_table (parse_document (codes "zeta = 1\nalpha = 2\n"))
+        ≡ Some (Err (UnknownKey (codes "alpha"))) }
+    ensures path { option_map config_or_fault_of_table (parse_document (codes "version = 1\nname = \"edge\"\ncapacity = 2\nmax_body = 1000\nmax_stored = 1000\n\n[[line]]\nhost = \"*\"\nmethods = [\"GET\"]\npath = \"/a/\"\norigin = \"127.0.0.1:8081\"\n")) ≡ Some (Err (BadPath 1)) }
+    ensures no_lines { option_map config_or_fault_of_table (parse_document (codes "version = 1\nname = \"edge\"\ncapacity = 2\nmax_body = 1000\nmax_stored = 1000\n\n")) ≡ Some (Err NoLines) }
 {}

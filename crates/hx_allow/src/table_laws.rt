@@ -9,10 +9,10 @@ ghost use Rattle.hx_allow.specs.Deciding.{deciding_line, lines_that_match_host};
 ghost use Rattle.hx_allow.specs.TableLines.{Line as PlainLine, Table};
 ghost use Rattle.hx_allow.specs.LineTables.{line_fault};
 ghost use Rattle.hx_allow.specs.Matching.{matches_line, verdict_of};
-ghost use Rattle.hx_allow.specs.Tables.{BytesAreToml, judge_table, table_version_of, BytesReadAsTable};
+ghost use Rattle.hx_allow.specs.Tables.{BytesAreToml, config_or_fault_of_table, table_version_of, BytesReadAsTable};
 ghost use Rattle.hx_allow.specs.Unknown.{KeyIsInTable, IsLeastUnknownKey};
 ghost use Rattle.hx_allow.specs.Values.{is_known_key, first_unknown};
-ghost use Rattle.hx_allow.specs.declared.config_faults.ConfigFault.{ConfigFault as Fault};
+ghost use Rattle.hx_allow.specs.declared.config_faults.TableFault.{TableFault as Fault};
 ghost use Rattle.hx_allow.specs.declared.values.Scope.{Scope};
 ghost use Rattle.hx_allow.specs.declared.values.Scope.TheVariants.{Top, Line};
 ghost use Rattle.hx_allow.specs.declared.values.TableVersion.{TableVersion};
@@ -27,7 +27,7 @@ pub fn the_least_unknown_key_is_named()
         → is_known_key scope key ≡ true }
     ensures top { (t : Members) (key : List ℕ) → members_are_sorted t ≡ true
         → IsLeastUnknownKey (Top (table_version_of t)) t key
-        → judge_table t ≡ Err (Fault.UnknownKey key) }
+        → config_or_fault_of_table t ≡ Err (Fault.UnknownKey key) }
     ensures line { (version : TableVersion) (n : ℕ) (ms : Members) (key : List ℕ) → members_are_sorted ms ≡ true
         → IsLeastUnknownKey (Line version) ms key → line_fault version n ms ≡ Some (Fault.UnknownKey key) }
     ensures sorted { (text : List ℕ) (t : Members) → parse_document text ≡ Some t → members_are_sorted t ≡ true }
@@ -41,7 +41,7 @@ pub fn a_table_is_toml_within_the_limit()
     ensures taken { (bytes : List ℕ) (table : Table) → BytesReadAsTable bytes (Ok table)
         → (length bytes ≤ 1048576) × IsUtf8 bytes × IsSome (parse_document bytes) }
     ensures judged { (bytes : List ℕ) (t : Members) → length bytes ≤ 1048576 → IsUtf8 bytes
-        → parse_document bytes ≡ Some t → BytesReadAsTable bytes (judge_table t) }
+        → parse_document bytes ≡ Some t → BytesReadAsTable bytes (config_or_fault_of_table t) }
     ensures too_long { (bytes : List ℕ) → 1048576 < length bytes → BytesReadAsTable bytes (Err Fault.NotToml) }
     ensures no_text { (bytes : List ℕ) → (IsUtf8 bytes → ⊥) → BytesReadAsTable bytes (Err Fault.NotToml) }
     ensures no_toml { (bytes : List ℕ) → parse_document bytes ≡ None → BytesReadAsTable bytes (Err Fault.NotToml) }

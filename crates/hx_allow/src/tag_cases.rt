@@ -6,14 +6,14 @@ ghost use Rattle.std.specs.List.{Contains};
 ghost use Rattle.hx_fields.specs.Line.{Field};
 ghost use Rattle.hx_fields.specs.Examples.{line};
 ghost use Rattle.hx_allow.specs.Examples.{seven_tags_and_a_comma};
-ghost use Rattle.hx_allow.specs.Tags.{is_cache_tag, response_names_tag, is_purged_by_tag, purge_tag_or_none};
+ghost use Rattle.hx_allow.specs.Tags.{is_cache_tag, response_names_tag, is_purged_by_tag_if_any, purge_tag_or_none};
 ghost use Rattle.hx_allow.specs.Tags.{cache_tags_of};
 
 /// A response names what its tags are, and each tag where it has more than 64. A purge without a tag is for each.
 pub fn a_purge_tag_matches_listed_or_over_64_tags()
     ensures named { (tag : List ℕ) (fields : List Field) → Decides (response_names_tag tag fields)
         ((64 < length (cache_tags_of fields)) ⊎ Contains (cache_tags_of fields) tag) }
-    ensures each { (fields : List Field) → is_purged_by_tag None fields ≡ true }
+    ensures each { (fields : List Field) → is_purged_by_tag_if_any None fields ≡ true }
 {}
 
 /// Which responses name `news`: names compare byte for byte, over all lines, behind blanks and empty members.

@@ -3,8 +3,9 @@ ghost use Rattle.std.specs.Prelude.{◌≡◌, ◌==◌, ◌||◌, not, length, 
 ghost use Rattle.std.specs.List.{list_all};
 ghost use Rattle.std.specs.Option.{option_copied};
 ghost use Rattle.hx_fields.specs.Names.{is_blank, members_of_value};
-ghost use Rattle.hx_allow.specs.Tags.{is_cache_tag, purge_tag_of, purge_tag_or_none};
-ghost use Rattle.hx_allow.specs.Tags.{tag_comparisons_left, tag_comparisons_left_after_lines, response_names_tag};
+ghost use Rattle.hx_allow.specs.Tags.{is_cache_tag, purge_tag_of_request, purge_tag_or_none};
+ghost use Rattle.hx_allow.specs.Tags.{comparisons_left_unless_found, comparisons_left_behind_fields};
+ghost use Rattle.hx_allow.specs.Tags.{response_names_tag};
 
 use hx_fields::{Field, Fields, is_same_name, next_member};
 
@@ -32,7 +33,7 @@ fn is_cache_tag(text: &[u8]) -> bool
 
 /// Whether the lines of a request ask for one tag, or for none.
 pub(crate) fn asks_for_one_purge_tag_or_none(fields: &Fields) -> bool
-    ensures { result ≡ is_some (purge_tag_of fields.now) }
+    ensures { result ≡ is_some (purge_tag_of_request fields.now) }
 {
     match fields.value(b"Purge-Tag") {
         None => true,
@@ -58,8 +59,8 @@ pub fn purge_tag_or_none(fields: &Fields) -> Option<&[u8]>
 
 /// How many more members may be looked at after those of this value, unless one of them is the tag or they are too
 /// many.
-fn tag_comparisons_left(tag: &[u8], value: &[u8], left: usize) -> Option<usize>
-    ensures { result ≡ tag_comparisons_left tag.now left (members_of_value value.now) }
+fn comparisons_left_unless_found(tag: &[u8], value: &[u8], left: usize) -> Option<usize>
+    ensures { result ≡ comparisons_left_unless_found tag.now left (members_of_value value.now) }
 {
     let mut rest = value;
     let mut left = left;
@@ -73,13 +74,13 @@ fn tag_comparisons_left(tag: &[u8], value: &[u8], left: usize) -> Option<usize>
     Some(left)
 }
 
-fn tag_comparisons_left_after_lines(tag: &[u8], fields: &[Field]) -> Option<usize>
-    ensures { result ≡ tag_comparisons_left_after_lines tag.now 64 fields.now }
+fn comparisons_left_behind_fields(tag: &[u8], fields: &[Field]) -> Option<usize>
+    ensures { result ≡ comparisons_left_behind_fields tag.now 64 fields.now }
 {
     let mut left = MOST_TAGS;
     for line in fields {
         if is_same_name(line.name(), b"Cache-Tag") {
-            left = tag_comparisons_left(tag, line.value(), left)?;
+            left = comparisons_left_unless_found(tag, line.value(), left)?;
         }
     }
     Some(left)
@@ -89,5 +90,5 @@ fn tag_comparisons_left_after_lines(tag: &[u8], fields: &[Field]) -> Option<usiz
 pub fn response_names_tag(tag: &[u8], fields: &Fields) -> bool
     ensures { result ≡ response_names_tag tag.now fields.now }
 {
-    tag_comparisons_left_after_lines(tag, fields.as_slice()).is_none()
+    comparisons_left_behind_fields(tag, fields.as_slice()).is_none()
 }

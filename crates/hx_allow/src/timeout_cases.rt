@@ -7,7 +7,7 @@ ghost use Rattle.hx_allow.specs.LineTables.{line_fault, line_of_members};
 ghost use Rattle.hx_allow.specs.Keys.{key_of_line_option};
 ghost use Rattle.hx_allow.specs.Matching.{origin_timeout_of};
 ghost use Rattle.hx_allow.specs.Values.{is_known_key};
-ghost use Rattle.hx_allow.specs.declared.config_faults.ConfigFault.TheVariants.{BadWord, UnknownKey};
+ghost use Rattle.hx_allow.specs.declared.config_faults.TableFault.TheVariants.{BadWord, UnknownKey};
 ghost use Rattle.hx_allow.specs.declared.config_faults.LineOption.TheVariants.{StaleWhileRevalidate, OriginTimeout};
 ghost use Rattle.hx_allow.specs.declared.values.Scope.TheVariants.{Top, Line};
 ghost use Rattle.hx_allow.specs.declared.values.TableVersion.TheVariants.{Three, Four};
@@ -15,7 +15,7 @@ ghost use Rattle.hx_allow.specs.declared.values.TableVersion.TheVariants.{Three,
 /// The key `origin-timeout`: whole seconds from 1 to 86,400, in version 4 alone, in each line that has an origin, and
 /// looked at last.
 #[tactic(auto, unfolding(crate::specs::LineTables::line_fault, crate::specs::LineTables::line_of_members, crate::specs::LineTables::is_line_host, crate::specs::LineTables::is_line_method, crate::specs::LineTables::is_line_path, crate::specs::Addresses::address_of, hx_target::specs::Hosts::is_host, hx_target::specs::Hosts::number_of_few_digits, hx_target::specs::Paths::has_dot_segment))]
-pub fn worked_timeouts_of_lines()
+pub fn worked_origin_timeouts_of_lines()
     ensures known { is_known_key (Line Four) (key_of_line_option OriginTimeout) ≡ true }
     ensures of_three { is_known_key (Line Three) (codes "origin-timeout") ≡ false }
     ensures at_the_top { is_known_key (Top Four) (codes "origin-timeout") ≡ false }

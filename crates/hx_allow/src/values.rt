@@ -5,13 +5,13 @@ ghost use Rattle.std.specs.BTreeMap.{keys};
 ghost use Rattle.std.specs.Option.{option_copied};
 ghost use Rattle.toml.specs.Data.{get_member};
 ghost use Rattle.toml.specs.View.{table_view, array_view, items_view, view};
-ghost use Rattle.hx_allow.specs.Rows.{row_of_source, kind_of_source, greatest_number};
+ghost use Rattle.hx_allow.specs.Rows.{definition_of_source_row, value_kind_of_source_kind, greatest_number};
 ghost use Rattle.hx_allow.specs.Values.{is_known_key, is_row_key_in_version, first_unknown, text_of_key, items_of_key};
 ghost use Rattle.hx_allow.specs.Values.{number_between, number_in, count_is_from_1_to};
 
 use crate::rows::{KeyDefinition, LINE_KEYS, TOP_KEYS};
 use toml::value::Array;
-use toml::{Table, Value};
+use toml::{Table as TomlTable, Value};
 
 /// The version of the table's format, which is the number of its key `version`.
 #[derive(Clone, Copy, Debug, PartialEq, Eq)]
@@ -54,7 +54,7 @@ fn is_top_key(version: TableVersion, key: &[u8]) -> bool
 
 /// Whether a version has the key of the row, and this is it.
 fn is_row_of(version: TableVersion, key: &[u8], row: KeyDefinition) -> bool
-    ensures { result ≡ is_row_key_in_version version key.now (row_of_source row) }
+    ensures { result ≡ is_row_key_in_version version key.now (definition_of_source_row row) }
 {
     row.is_known_in(version) && key == row.key.as_bytes()
 }
@@ -67,7 +67,7 @@ fn is_line_key(version: TableVersion, key: &[u8]) -> bool
         .any(|known| is_row_of(version, key, known.row()))
 }
 
-fn unknown_key(scope: Scope, table: &Table) -> Option<&String>
+fn unknown_key(scope: Scope, table: &TomlTable) -> Option<&String>
     ensures { option_copied result ≡ find (λ k. not (is_known_key scope (string_bytes k))) (keys table.now) }
 {
     table
@@ -76,7 +76,7 @@ fn unknown_key(scope: Scope, table: &Table) -> Option<&String>
 }
 
 /// The first key that isn't known. Keys ascend by their bytes, so it is the least.
-pub fn first_unknown(scope: Scope, table: &Table) -> Option<&str>
+pub fn first_unknown(scope: Scope, table: &TomlTable) -> Option<&str>
     ensures { option_copied result ≡ first_unknown scope (table_view table.now) }
 {
     match unknown_key(scope, table) {
@@ -86,14 +86,14 @@ pub fn first_unknown(scope: Scope, table: &Table) -> Option<&str>
 }
 
 /// The value of a key, where it stands.
-pub fn value_of_key<'a>(table: &'a Table, key: &str) -> Option<&'a Value>
+pub fn value_of_key<'a>(table: &'a TomlTable, key: &str) -> Option<&'a Value>
     ensures { option_map (λ v. view v.now) result ≡ get_member key.now (table_view table.now) }
 {
     table.get(key)
 }
 
 /// The text of a key, where it has one.
-pub fn text_of_key<'a>(table: &'a Table, key: &str) -> Option<&'a str>
+pub fn text_of_key<'a>(table: &'a TomlTable, key: &str) -> Option<&'a str>
     ensures { option_copied result ≡ text_of_key key.now (table_view table.now) }
 {
     match value_of_key(table, key) {
@@ -103,7 +103,7 @@ pub fn text_of_key<'a>(table: &'a Table, key: &str) -> Option<&'a str>
 }
 
 /// The array of a key, where it has one.
-pub fn array_of_key<'a>(table: &'a Table, key: &str) -> Option<&'a Array>
+pub fn array_of_key<'a>(table: &'a TomlTable, key: &str) -> Option<&'a Array>
     ensures { option_map (λ a. array_view a.now) result ≡ items_of_key key.now (table_view table.now) }
 {
     match value_of_key(table, key) {
@@ -113,7 +113,7 @@ pub fn array_of_key<'a>(table: &'a Table, key: &str) -> Option<&'a Array>
 }
 
 /// The number of a key, where it is whole and within bounds.
-pub fn number_between(table: &Table, key: &str, low: u64, high: u64) -> Option<u64>
+pub fn number_between(table: &TomlTable, key: &str, low: u64, high: u64) -> Option<u64>
     ensures number { result ≡ number_between low high (get_member key.now (table_view table.now)) }
     ensures bounded { IfSome result (λ n. n ≤ high) }
 {
@@ -124,9 +124,9 @@ pub fn number_between(table: &Table, key: &str, low: u64, high: u64) -> Option<u
 }
 
 /// The number of a row's key, where it is whole and within its bounds.
-pub(crate) fn number_in(row: KeyDefinition, table: &Table) -> Option<u64>
-    ensures number { result ≡ number_in (row_of_source row) (table_view table.now) }
-    ensures bounded { IfSome result (λ n. n ≤ greatest_number (kind_of_source row.kind)) }
+pub(crate) fn number_in(row: KeyDefinition, table: &TomlTable) -> Option<u64>
+    ensures number { result ≡ number_in (definition_of_source_row row) (table_view table.now) }
+    ensures bounded { IfSome result (λ n. n ≤ greatest_number (value_kind_of_source_kind row.kind)) }
 {
     let (low, high) = row.kind.bounds();
     number_between(table, row.key, low, high)
@@ -143,9 +143,9 @@ fn within(low: u64, high: u64, number: Option<i64>) -> Option<u64>
 }
 
 /// The seconds of a row's key, where they are whole and within its bounds.
-pub(crate) fn seconds_of_row(row: KeyDefinition, table: &Table) -> Option<u32>
-    requires { greatest_number (kind_of_source row.kind) < 2 ^ 32 }
-    ensures { result ≡ number_in (row_of_source row) (table_view table.now) }
+pub(crate) fn seconds_of_row(row: KeyDefinition, table: &TomlTable) -> Option<u32>
+    requires { greatest_number (value_kind_of_source_kind row.kind) < 2 ^ 32 }
+    ensures { result ≡ number_in (definition_of_source_row row) (table_view table.now) }
 {
     match number_in(row, table) {
         Some(seconds) => Some(seconds as u32),

@@ -6,7 +6,7 @@ ghost use Rattle.hx_allow.specs.Examples.{eight_vary_names, table_with_vary_line
 ghost use Rattle.hx_allow.specs.Keys.{key_of_line_option};
 ghost use Rattle.hx_allow.specs.LineTables.{line_fault, line_of_members};
 ghost use Rattle.hx_allow.specs.Matching.{vary_names_of_line};
-ghost use Rattle.hx_allow.specs.declared.config_faults.ConfigFault.TheVariants.{BadWord, UnknownKey};
+ghost use Rattle.hx_allow.specs.declared.config_faults.TableFault.TheVariants.{BadWord, UnknownKey};
 ghost use Rattle.hx_allow.specs.declared.config_faults.LineOption.TheVariants.{SessionCookies, StaleWhileRevalidate};
 ghost use Rattle.hx_allow.specs.declared.config_faults.LineOption.TheVariants.{Vary};
 ghost use Rattle.hx_allow.specs.declared.values.TableVersion.TheVariants.{Three, Four};

@@ -1,11 +1,11 @@
 //! What the operator's table says of a request.
 ghost use Rattle.std.specs.Prelude.{◌≡◌};
 ghost use Rattle.hx_allow.specs.Index.{verdict_is_at_or_before_line};
-ghost use Rattle.hx_allow.specs.Matching.{route_over};
+ghost use Rattle.hx_allow.specs.Matching.{route_over_line};
 
 /// Over which line of the table a request goes, and whether past the store.
 #[derive(Clone, Copy, Debug, PartialEq, Eq, Hash)]
-pub struct RequestRoute {
+pub struct RouteOverLine {
     /// The number of the line, counted from 1.
     pub number: u16,
     /// The request has one of the cookies that the line names: nothing stored is sent for it, its answer isn't stored,
@@ -13,12 +13,12 @@ pub struct RequestRoute {
     pub past_store: bool,
 }
 
-impl RequestRoute {
+impl RouteOverLine {
     /// The way over a line for a request without such a cookie.
-    pub fn over(number: u16) -> RequestRoute
-        ensures { result ≡ route_over number }
+    pub fn over(number: u16) -> RouteOverLine
+        ensures { result ≡ route_over_line number }
     {
-        RequestRoute {
+        RouteOverLine {
             number,
             past_store: false,
         }
@@ -29,7 +29,7 @@ impl RequestRoute {
 #[derive(Clone, Copy, Debug, PartialEq, Eq, Hash)]
 pub enum Verdict {
     /// The first line that matches has an origin.
-    Allowed(RequestRoute),
+    Allowed(RouteOverLine),
     /// The first line that matches denies, or purges and the request shows no key of its.
     DeniedBy(u16),
     /// No line matches, which denies too.

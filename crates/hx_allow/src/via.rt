@@ -2,7 +2,7 @@
 ghost use Rattle.std.specs.Prelude.{◌≡◌, ◌≤◌, ◌<◌, ◌+◌, ◌^◌, length, nat_le, if◌then◌else◌};
 ghost use Rattle.std.specs.List.{prefix_len};
 ghost use Rattle.hx_fields.specs.Names.{is_blank};
-ghost use Rattle.hx_allow.specs.Via.{via_place_after_byte, is_list_comma_at, is_via_word_byte, without_blanks};
+ghost use Rattle.hx_allow.specs.Via.{via_place_after_byte, is_list_comma_at, is_via_word_byte, without_leading_blanks};
 ghost use Rattle.hx_allow.specs.Via.{received_by_of_via_member};
 ghost use Rattle.hx_allow.specs.Via.{number_of_enclosing_comments, via_member_names_proxy, times_in_via_line};
 ghost use Rattle.hx_allow.specs.Via.{times_in_via};
@@ -12,7 +12,7 @@ use hx_fields::{Field, is_same_name};
 
 /// Where a byte of a line of Via stands.
 #[derive(Clone, Copy, PartialEq, Eq)]
-pub(crate) enum ViaPlace {
+pub(crate) enum ViaLineParseState {
     Outside,
     Quoted,
     /// In quotes, behind a backslash.
@@ -23,46 +23,46 @@ pub(crate) enum ViaPlace {
     CommentPair(usize),
 }
 
-fn place_in_comment(around: usize, b: u8) -> ViaPlace
+fn place_in_comment(around: usize, b: u8) -> ViaLineParseState
     requires { around + 1 < 2 ^ 64 }
-    ensures { result ≡ via_place_after_byte (ViaPlace.Comment around) b }
+    ensures { result ≡ via_place_after_byte (ViaLineParseState.Comment around) b }
 {
     match b {
-        b'(' => ViaPlace::Comment(around + 1),
-        b')' if around == 0 => ViaPlace::Outside,
-        b')' => ViaPlace::Comment(around - 1),
-        b'\\' => ViaPlace::CommentPair(around),
-        _ => ViaPlace::Comment(around),
+        b'(' => ViaLineParseState::Comment(around + 1),
+        b')' if around == 0 => ViaLineParseState::Outside,
+        b')' => ViaLineParseState::Comment(around - 1),
+        b'\\' => ViaLineParseState::CommentPair(around),
+        _ => ViaLineParseState::Comment(around),
     }
 }
 
 /// Where the byte behind this one stands.
-fn via_place_after_byte(place: ViaPlace, b: u8) -> ViaPlace
+fn via_place_after_byte(place: ViaLineParseState, b: u8) -> ViaLineParseState
     requires { number_of_enclosing_comments place + 1 < 2 ^ 64 }
     ensures { result ≡ via_place_after_byte place b }
 {
     match place {
-        ViaPlace::Outside => match b {
-            b'"' => ViaPlace::Quoted,
-            b'(' => ViaPlace::Comment(0),
-            _ => ViaPlace::Outside,
+        ViaLineParseState::Outside => match b {
+            b'"' => ViaLineParseState::Quoted,
+            b'(' => ViaLineParseState::Comment(0),
+            _ => ViaLineParseState::Outside,
         },
-        ViaPlace::Quoted => match b {
-            b'"' => ViaPlace::Outside,
-            b'\\' => ViaPlace::QuotedPair,
-            _ => ViaPlace::Quoted,
+        ViaLineParseState::Quoted => match b {
+            b'"' => ViaLineParseState::Outside,
+            b'\\' => ViaLineParseState::QuotedPair,
+            _ => ViaLineParseState::Quoted,
         },
-        ViaPlace::QuotedPair => ViaPlace::Quoted,
-        ViaPlace::Comment(around) => place_in_comment(around, b),
-        ViaPlace::CommentPair(around) => ViaPlace::Comment(around),
+        ViaLineParseState::QuotedPair => ViaLineParseState::Quoted,
+        ViaLineParseState::Comment(around) => place_in_comment(around, b),
+        ViaLineParseState::CommentPair(around) => ViaLineParseState::Comment(around),
     }
 }
 
-fn is_list_comma_at(place: ViaPlace, b: u8) -> bool
+fn is_list_comma_at(place: ViaLineParseState, b: u8) -> bool
     ensures { result ≡ is_list_comma_at place b }
 {
     match place {
-        ViaPlace::Outside => b == b',',
+        ViaLineParseState::Outside => b == b',',
         _ => false,
     }
 }
@@ -101,8 +101,8 @@ fn word_len(text: &[u8]) -> usize
     n
 }
 
-fn without_blanks(text: &[u8]) -> &[u8]
-    ensures { result.now ≡ without_blanks text.now }
+fn without_leading_blanks(text: &[u8]) -> &[u8]
+    ensures { result.now ≡ without_leading_blanks text.now }
 {
     &text[leading_blanks(text)..]
 }
@@ -111,8 +111,8 @@ fn without_blanks(text: &[u8]) -> &[u8]
 fn received_by_of_via_member(member: &[u8]) -> &[u8]
     ensures { result.now ≡ received_by_of_via_member member.now }
 {
-    let protocol = without_blanks(member);
-    let rest = without_blanks(&protocol[word_len(protocol)..]);
+    let protocol = without_leading_blanks(member);
+    let rest = without_leading_blanks(&protocol[word_len(protocol)..]);
     &rest[..word_len(rest)]
 }
 
@@ -138,7 +138,7 @@ fn times_in_via_line(name: &[u8], value: &[u8]) -> usize
     ensures times { result ≡ times_in_via_line name.now value.now }
     ensures bound { result ≤ length value.now + 1 }
 {
-    let mut place = ViaPlace::Outside;
+    let mut place = ViaLineParseState::Outside;
     let mut start = 0;
     let mut found = 0;
     let mut i = 0;

@@ -6,7 +6,7 @@ ghost use Rattle.hx_allow.specs.LineTables.{line_fault, line_of_members};
 ghost use Rattle.hx_allow.specs.Keys.{key_of_line_option};
 ghost use Rattle.hx_allow.specs.Matching.{wait_timeout_of};
 ghost use Rattle.hx_allow.specs.Values.{is_known_key};
-ghost use Rattle.hx_allow.specs.declared.config_faults.ConfigFault.TheVariants.{BadWord, UnknownKey};
+ghost use Rattle.hx_allow.specs.declared.config_faults.TableFault.TheVariants.{BadWord, UnknownKey};
 ghost use Rattle.hx_allow.specs.declared.config_faults.LineOption.TheVariants.{Ranges, WaitTimeout};
 ghost use Rattle.hx_allow.specs.declared.values.Scope.TheVariants.{Top, Line};
 ghost use Rattle.hx_allow.specs.declared.values.TableVersion.TheVariants.{Three, Four};

@@ -3,28 +3,30 @@
 ghost use Rattle.std.specs.Prelude.{◌≡◌, ◌∷◌, ◌++◌, [], Some, None, true, false, codes, pos, negsuc};
 ghost use Rattle.toml.specs.Data.{string, integer, boolean, array, table, no_items, no_members};
 ghost use Rattle.hx_policy.specs.Policies.{plain};
-ghost use Rattle.hx_allow.specs.Addresses.{address_of, address_of_numbers, is_address, is_decimal_within};
-ghost use Rattle.hx_allow.specs.Examples.{target_for_path, repeated_byte, first_line_denies, indexed_lines};
-ghost use Rattle.hx_allow.specs.Examples.{line_without_cache, repeated_value};
+ghost use Rattle.hx_allow.specs.Addresses.{address_of, address_of_numbers, is_ipv4_and_port, is_decimal_within};
+ghost use Rattle.hx_allow.specs.Examples.{target_for_path, repeated_byte, lines_with_denying_line_first};
+ghost use Rattle.hx_allow.specs.Examples.{example_lines_to_index};
+ghost use Rattle.hx_allow.specs.Examples.{lines_without_and_with_cache, repeated_value};
 ghost use Rattle.hx_allow.specs.Examples.{key_with_number, array_of_values, table_of_pairs, origin_8081};
-ghost use Rattle.hx_allow.specs.Examples.{line_with_method, several_lines, key_with_text};
-ghost use Rattle.hx_allow.specs.Index.{is_exactly_host, is_for_every_host, line_numbers_with, verdict_by_line_numbers};
-ghost use Rattle.hx_allow.specs.Keys.{config_fault_number, key_text};
+ghost use Rattle.hx_allow.specs.Examples.{example_line_with_method, several_lines, key_with_text};
+ghost use Rattle.hx_allow.specs.Index.{line_host_is_exactly, is_for_every_host, numbers_of_lines_with_host};
+ghost use Rattle.hx_allow.specs.Index.{verdict_by_line_numbers};
+ghost use Rattle.hx_allow.specs.Keys.{table_fault_number, key_text};
 ghost use Rattle.hx_allow.specs.LineHosts.{line_host_matches};
 ghost use Rattle.hx_allow.specs.LineTables.{are_texts_of_kind, is_line_host, is_line_method, is_line_origin};
 ghost use Rattle.hx_allow.specs.LineTables.{is_line_path};
-ghost use Rattle.hx_allow.specs.Matching.{line_policy, route_over, matches_method, matches_path};
+ghost use Rattle.hx_allow.specs.Matching.{line_policy, route_over_line, matches_method, matches_path};
 ghost use Rattle.hx_allow.specs.Matching.{origin_of, origin_address_of, verdict_of};
-ghost use Rattle.hx_allow.specs.PathTails.{path_may_match_tail, path_tail_of};
-ghost use Rattle.hx_allow.specs.NeverReached.{first_covering_line, line_covers_line};
+ghost use Rattle.hx_allow.specs.PathTails.{path_may_match_tail, path_length_and_end_of};
+ghost use Rattle.hx_allow.specs.NeverReached.{first_line_covering_line, line_covers_line};
 ghost use Rattle.hx_allow.specs.Rows.{some_methods};
 ghost use Rattle.hx_allow.specs.Tables.{is_name, number_of_key};
 ghost use Rattle.hx_allow.specs.Values.{is_known_key, items_of_key, number_between, text_of_key};
-ghost use Rattle.hx_allow.specs.declared.config_faults.ConfigFault.TheVariants.{NotToml, UnknownKey, BadName};
-ghost use Rattle.hx_allow.specs.declared.config_faults.ConfigFault.TheVariants.{BadNumber};
-ghost use Rattle.hx_allow.specs.declared.config_faults.ConfigFault.TheVariants.{BadHost, BadMethod, BadPath, BadOrigin};
-ghost use Rattle.hx_allow.specs.declared.config_faults.ConfigFault.TheVariants.{NoLines, OutOfMemory, BadCache};
-ghost use Rattle.hx_allow.specs.declared.config_faults.ConfigFault.TheVariants.{BadWord, MethodInLowerCase, StarInPath};
+ghost use Rattle.hx_allow.specs.declared.config_faults.TableFault.TheVariants.{NotToml, UnknownKey, BadName};
+ghost use Rattle.hx_allow.specs.declared.config_faults.TableFault.TheVariants.{BadNumber};
+ghost use Rattle.hx_allow.specs.declared.config_faults.TableFault.TheVariants.{BadHost, BadMethod, BadPath, BadOrigin};
+ghost use Rattle.hx_allow.specs.declared.config_faults.TableFault.TheVariants.{NoLines, OutOfMemory, BadCache};
+ghost use Rattle.hx_allow.specs.declared.config_faults.TableFault.TheVariants.{BadWord, MethodInLowerCase, StarInPath};
 ghost use Rattle.hx_allow.specs.declared.config_faults.LineOption.TheVariants.{Lifetime};
 ghost use Rattle.hx_allow.specs.declared.config_faults.NumberKey.TheVariants.{Version, Capacity, MaxBody, MaxStored};
 ghost use Rattle.hx_allow.specs.declared.config_faults.NumberKey.TheVariants.{MaxStore};
@@ -34,21 +36,21 @@ ghost use Rattle.hx_allow.specs.declared.values.TableVersion.TheVariants.{One, T
 ghost use Rattle.hx_allow.specs.declared.verdicts.Verdict.TheVariants.{Allowed, DeniedBy, NoLine};
 
 /// The numbers of the faults.
-pub fn worked_config_fault_numbers()
-    ensures not_toml { config_fault_number NotToml ≡ 1 }
-    ensures unknown_key { config_fault_number (UnknownKey []) ≡ 2 }
-    ensures bad_name { config_fault_number BadName ≡ 3 }
-    ensures bad_number { config_fault_number (BadNumber Version) ≡ 4 }
-    ensures bad_host { config_fault_number (BadHost 1) ≡ 5 }
-    ensures bad_method { config_fault_number (BadMethod 1) ≡ 6 }
-    ensures bad_path { config_fault_number (BadPath 1) ≡ 7 }
-    ensures bad_origin { config_fault_number (BadOrigin 1) ≡ 8 }
-    ensures no_lines { config_fault_number NoLines ≡ 9 }
-    ensures out_of_memory { config_fault_number OutOfMemory ≡ 10 }
-    ensures bad_cache { config_fault_number (BadCache 1) ≡ 11 }
-    ensures bad_word { config_fault_number (BadWord 1 Lifetime) ≡ 12 }
-    ensures method_in_lower_case { config_fault_number (MethodInLowerCase 1) ≡ 13 }
-    ensures star_in_path { config_fault_number (StarInPath 1) ≡ 14 }
+pub fn worked_table_fault_numbers()
+    ensures not_toml { table_fault_number NotToml ≡ 1 }
+    ensures unknown_key { table_fault_number (UnknownKey []) ≡ 2 }
+    ensures bad_name { table_fault_number BadName ≡ 3 }
+    ensures bad_number { table_fault_number (BadNumber Version) ≡ 4 }
+    ensures bad_host { table_fault_number (BadHost 1) ≡ 5 }
+    ensures bad_method { table_fault_number (BadMethod 1) ≡ 6 }
+    ensures bad_path { table_fault_number (BadPath 1) ≡ 7 }
+    ensures bad_origin { table_fault_number (BadOrigin 1) ≡ 8 }
+    ensures no_lines { table_fault_number NoLines ≡ 9 }
+    ensures out_of_memory { table_fault_number OutOfMemory ≡ 10 }
+    ensures bad_cache { table_fault_number (BadCache 1) ≡ 11 }
+    ensures bad_word { table_fault_number (BadWord 1 Lifetime) ≡ 12 }
+    ensures method_in_lower_case { table_fault_number (MethodInLowerCase 1) ≡ 13 }
+    ensures star_in_path { table_fault_number (StarInPath 1) ≡ 14 }
 {}
 
 /// The keys at the top of a table, and others.
@@ -94,7 +96,7 @@ pub fn worked_keys_of_a_line()
 {}
 
 /// The text of a key is a string; a number isn't one.
-pub fn worked_texts_of_keys()
+pub fn worked_texts_of_config_keys()
     ensures is_present { text_of_key (codes "name")
         (table_of_pairs (key_with_number (codes "capacity") 2 ∷ key_with_text (codes "name") (codes "edge") ∷ [])) ≡ Some (codes "edge") }
     ensures missing { text_of_key (codes "name") (table_of_pairs (key_with_number (codes "capacity") 2 ∷ [])) ≡ None }
@@ -118,7 +120,7 @@ pub fn worked_numbers_within_bounds()
 {}
 
 /// The least and the greatest number of each key, and those beside them.
-pub fn worked_bounds_of_top_numbers()
+pub fn worked_bounds_of_config_numbers()
     ensures version_0 { number_of_key Version (table_of_pairs (key_with_number (codes "version") 0 ∷ [])) ≡ None }
     ensures version_1 { number_of_key Version (table_of_pairs (key_with_number (codes "version") 1 ∷ [])) ≡ Some 1 }
     ensures version_2 { number_of_key Version (table_of_pairs (key_with_number (codes "version") 2 ∷ [])) ≡ Some 2 }
@@ -253,24 +255,24 @@ pub fn worked_numbers_in_addresses()
 /// Addresses of origins.
 #[tactic(auto, unfolding(crate::specs::Addresses::address_of, hx_target::specs::Hosts::number_of_few_digits))]
 pub fn worked_addresses_of_origins()
-    ensures first_run { is_address (codes "127.0.0.1:8081") ≡ true }
-    ensures least { is_address (codes "0.0.0.0:1") ≡ true }
-    ensures greatest { is_address (codes "255.255.255.255:65535") ≡ true }
-    ensures port_0 { is_address (codes "1.2.3.4:0") ≡ false }
-    ensures port_65536 { is_address (codes "1.2.3.4:65536") ≡ false }
-    ensures port_with_zero { is_address (codes "1.2.3.4:080") ≡ false }
-    ensures no_port { is_address (codes "1.2.3.4") ≡ false }
-    ensures empty_port { is_address (codes "1.2.3.4:") ≡ false }
-    ensures blank { is_address (codes "1.2.3.4:80 ") ≡ false }
-    ensures first_256 { is_address (codes "256.2.3.4:80") ≡ false }
-    ensures second_256 { is_address (codes "1.256.3.4:80") ≡ false }
-    ensures third_256 { is_address (codes "1.2.256.4:80") ≡ false }
-    ensures fourth_256 { is_address (codes "1.2.3.256:80") ≡ false }
-    ensures three { is_address (codes "1.2.3:80") ≡ false }
-    ensures five { is_address (codes "1.2.3.4.5:80") ≡ false }
-    ensures name { is_address (codes "localhost:80") ≡ false }
-    ensures colons { is_address (codes "1:2:3:4:80") ≡ false }
-    ensures dots { is_address (codes "1.2.3.4.80") ≡ false }
+    ensures first_run { is_ipv4_and_port (codes "127.0.0.1:8081") ≡ true }
+    ensures least { is_ipv4_and_port (codes "0.0.0.0:1") ≡ true }
+    ensures greatest { is_ipv4_and_port (codes "255.255.255.255:65535") ≡ true }
+    ensures port_0 { is_ipv4_and_port (codes "1.2.3.4:0") ≡ false }
+    ensures port_65536 { is_ipv4_and_port (codes "1.2.3.4:65536") ≡ false }
+    ensures port_with_zero { is_ipv4_and_port (codes "1.2.3.4:080") ≡ false }
+    ensures no_port { is_ipv4_and_port (codes "1.2.3.4") ≡ false }
+    ensures empty_port { is_ipv4_and_port (codes "1.2.3.4:") ≡ false }
+    ensures blank { is_ipv4_and_port (codes "1.2.3.4:80 ") ≡ false }
+    ensures first_256 { is_ipv4_and_port (codes "256.2.3.4:80") ≡ false }
+    ensures second_256 { is_ipv4_and_port (codes "1.256.3.4:80") ≡ false }
+    ensures third_256 { is_ipv4_and_port (codes "1.2.256.4:80") ≡ false }
+    ensures fourth_256 { is_ipv4_and_port (codes "1.2.3.256:80") ≡ false }
+    ensures three { is_ipv4_and_port (codes "1.2.3:80") ≡ false }
+    ensures five { is_ipv4_and_port (codes "1.2.3.4.5:80") ≡ false }
+    ensures name { is_ipv4_and_port (codes "localhost:80") ≡ false }
+    ensures colons { is_ipv4_and_port (codes "1:2:3:4:80") ≡ false }
+    ensures dots { is_ipv4_and_port (codes "1.2.3.4.80") ≡ false }
 {}
 
 /// The addresses that texts and lines spell.
@@ -279,8 +281,8 @@ pub fn worked_addresses_that_are_read()
     ensures first_run { address_of (codes "127.0.0.1:8081") ≡ Some (address_of_numbers 127 0 0 1 8081) }
     ensures five_numbers { address_of (codes "1.20.255.0:65535") ≡ Some (address_of_numbers 1 20 255 0 65535) }
     ensures none { address_of (codes "1.2.3.4:0") ≡ None }
-    ensures allowing { origin_address_of first_line_denies 2 ≡ Some (address_of_numbers 127 0 0 1 8081) }
-    ensures denying { origin_address_of first_line_denies 1 ≡ None }
+    ensures allowing { origin_address_of lines_with_denying_line_first 2 ≡ Some (address_of_numbers 127 0 0 1 8081) }
+    ensures denying { origin_address_of lines_with_denying_line_first 1 ≡ None }
 {}
 
 /// Origins of lines: `deny`, or an address.
@@ -337,12 +339,16 @@ pub fn worked_paths_that_match()
 /// The first line decides, also against a later one that allows; an escape in the asked path hides nothing.
 #[tactic(auto, unfolding(crate::specs::Matching::verdict_of, crate::specs::Matching::matches_line))]
 pub fn worked_first_line_denies()
-    ensures escaped { verdict_of first_line_denies (codes "GET") (target_for_path (codes "h") (codes "/%61dmin")) ≡ DeniedBy 1 }
-    ensures head { verdict_of first_line_denies (codes "HEAD") (target_for_path (codes "h") (codes "/%61dmin")) ≡ DeniedBy 1 }
-    ensures other_path { verdict_of first_line_denies (codes "GET") (target_for_path (codes "h") (codes "/admins"))
-        ≡ Allowed (route_over 2) }
-    ensures other_method { verdict_of first_line_denies (codes "POST") (target_for_path (codes "h") (codes "/x")) ≡ NoLine }
-    ensures connect { verdict_of first_line_denies (codes "CONNECT") (target_for_path (codes "h") (codes "/admin")) ≡ NoLine }
+    ensures escaped { verdict_of lines_with_denying_line_first (codes "GET")
+        (target_for_path (codes "h") (codes "/%61dmin")) ≡ DeniedBy 1 }
+    ensures head { verdict_of lines_with_denying_line_first (codes "HEAD")
+        (target_for_path (codes "h") (codes "/%61dmin")) ≡ DeniedBy 1 }
+    ensures other_path { verdict_of lines_with_denying_line_first (codes "GET") (target_for_path (codes "h") (codes "/admins"))
+        ≡ Allowed (route_over_line 2) }
+    ensures other_method { verdict_of lines_with_denying_line_first (codes "POST")
+        (target_for_path (codes "h") (codes "/x")) ≡ NoLine }
+    ensures connect { verdict_of lines_with_denying_line_first (codes "CONNECT")
+        (target_for_path (codes "h") (codes "/admin")) ≡ NoLine }
     ensures no_lines { verdict_of [] (codes "GET") (target_for_path (codes "h") (codes "/x")) ≡ NoLine }
 {}
 
@@ -351,65 +357,71 @@ pub fn worked_first_line_denies()
 pub fn worked_verdicts_of_several_lines()
     ensures denied { verdict_of several_lines (codes "GET") (target_for_path (codes "h") (codes "/admin/x")) ≡ DeniedBy 1 }
     ensures allowed { verdict_of several_lines (codes "GET") (target_for_path (codes "x") (codes "/admins"))
-        ≡ Allowed (route_over 2) }
+        ≡ Allowed (route_over_line 2) }
     ensures no_line { verdict_of several_lines (codes "GET") (target_for_path (codes "h") (codes "/b")) ≡ NoLine }
     ensures other_port { verdict_of several_lines (codes "GET") (record (target_for_path (codes "x") (codes "/b")) {
       key = record { host = codes "x"; port = 8080; path_query = codes "/b?q" };
-    }) ≡ Allowed (route_over 2) }
+    }) ≡ Allowed (route_over_line 2) }
 {}
 
 /// Lines of one host around one for every host: those that a host can match, and which of them decides.
 #[tactic(auto, unfolding(crate::specs::Matching::verdict_of, crate::specs::Matching::matches_line))]
 pub fn worked_verdicts_of_indexed_lines()
-    ensures denied { verdict_of indexed_lines (codes "GET") (target_for_path (codes "x") (codes "/p/q")) ≡ DeniedBy 1 }
-    ensures for_every_host { verdict_of indexed_lines (codes "GET") (target_for_path (codes "x") (codes "/"))
-        ≡ Allowed (route_over 2) }
-    ensures behind_it { verdict_of indexed_lines (codes "POST") (target_for_path (codes "x") (codes "/"))
-        ≡ Allowed (route_over 3) }
-    ensures other_host { verdict_of indexed_lines (codes "POST") (target_for_path (codes "y") (codes "/")) ≡ NoLine }
-    ensures numbers { line_numbers_with (is_exactly_host (codes "x")) indexed_lines ≡ 1 ∷ 3 ∷ [] }
-    ensures numbers_of_others { line_numbers_with (is_exactly_host (codes "y")) indexed_lines ≡ [] }
-    ensures numbers_for_every_host { line_numbers_with is_for_every_host indexed_lines ≡ 2 ∷ [] }
-    ensures among { verdict_by_line_numbers indexed_lines (1 ∷ 2 ∷ 3 ∷ []) (codes "POST") (codes "/") NoLine
-        ≡ Allowed (route_over 3) }
-    ensures among_others { verdict_by_line_numbers indexed_lines (2 ∷ []) (codes "POST") (codes "/") NoLine ≡ NoLine }
-    ensures among_none { verdict_by_line_numbers indexed_lines (0 ∷ 4 ∷ []) (codes "GET") (codes "/") NoLine ≡ NoLine }
-    ensures behind_a_missing_one { verdict_by_line_numbers indexed_lines (4 ∷ 2 ∷ []) (codes "GET") (codes "/") NoLine
-        ≡ Allowed (route_over 2) }
-    ensures among_denied { verdict_by_line_numbers indexed_lines (1 ∷ 2 ∷ []) (codes "GET") (codes "/p/q") NoLine
+    ensures denied { verdict_of example_lines_to_index (codes "GET") (target_for_path (codes "x") (codes "/p/q")) ≡ DeniedBy 1 }
+    ensures for_every_host { verdict_of example_lines_to_index (codes "GET") (target_for_path (codes "x") (codes "/"))
+        ≡ Allowed (route_over_line 2) }
+    ensures behind_it { verdict_of example_lines_to_index (codes "POST") (target_for_path (codes "x") (codes "/"))
+        ≡ Allowed (route_over_line 3) }
+    ensures other_host { verdict_of example_lines_to_index (codes "POST") (target_for_path (codes "y") (codes "/")) ≡ NoLine }
+    ensures numbers { numbers_of_lines_with_host (line_host_is_exactly (codes "x")) example_lines_to_index ≡ 1 ∷ 3 ∷ [] }
+    ensures numbers_of_others { numbers_of_lines_with_host (line_host_is_exactly (codes "y")) example_lines_to_index
+        ≡ [] }
+    ensures numbers_for_every_host { numbers_of_lines_with_host is_for_every_host example_lines_to_index ≡ 2 ∷ [] }
+    ensures among { verdict_by_line_numbers example_lines_to_index (1 ∷ 2 ∷ 3 ∷ []) (codes "POST") (codes "/") NoLine
+        ≡ Allowed (route_over_line 3) }
+    ensures among_others { verdict_by_line_numbers example_lines_to_index (2 ∷ []) (codes "POST") (codes "/") NoLine
+        ≡ NoLine }
+    ensures among_none { verdict_by_line_numbers example_lines_to_index (0 ∷ 4 ∷ []) (codes "GET") (codes "/") NoLine
+        ≡ NoLine }
+    ensures behind_a_missing_one { verdict_by_line_numbers example_lines_to_index (4 ∷ 2 ∷ []) (codes "GET")
+        (codes "/") NoLine
+        ≡ Allowed (route_over_line 2) }
+    ensures among_denied { verdict_by_line_numbers example_lines_to_index (1 ∷ 2 ∷ []) (codes "GET") (codes "/p/q") NoLine
         ≡ DeniedBy 1 }
-    ensures in_front { verdict_by_line_numbers indexed_lines (2 ∷ []) (codes "GET") (codes "/") (Allowed (route_over 3))
-        ≡ Allowed (route_over 2) }
-    ensures found_in_front { verdict_by_line_numbers indexed_lines (2 ∷ []) (codes "GET") (codes "/") (DeniedBy 1)
+    ensures in_front { verdict_by_line_numbers example_lines_to_index (2 ∷ []) (codes "GET") (codes "/")
+        (Allowed (route_over_line 3))
+        ≡ Allowed (route_over_line 2) }
+    ensures found_in_front { verdict_by_line_numbers example_lines_to_index (2 ∷ []) (codes "GET") (codes "/") (DeniedBy 1)
         ≡ DeniedBy 1 }
-    ensures found_alone { verdict_by_line_numbers indexed_lines (2 ∷ []) (codes "POST") (codes "/") (Allowed (route_over 3))
-        ≡ Allowed (route_over 3) }
+    ensures found_alone { verdict_by_line_numbers example_lines_to_index (2 ∷ []) (codes "POST") (codes "/")
+        (Allowed (route_over_line 3))
+        ≡ Allowed (route_over_line 3) }
 {}
 
 /// Which lines are cached, and which say nothing.
 pub fn worked_lines_with_cache()
-    ensures off { line_policy line_without_cache 1 ≡ plain false }
-    ensures on { line_policy line_without_cache 2 ≡ plain true }
-    ensures behind_the_last { line_policy line_without_cache 3 ≡ plain false }
-    ensures none { line_policy first_line_denies 0 ≡ plain false }
+    ensures off { line_policy lines_without_and_with_cache 1 ≡ plain false }
+    ensures on { line_policy lines_without_and_with_cache 2 ≡ plain true }
+    ensures behind_the_last { line_policy lines_without_and_with_cache 3 ≡ plain false }
+    ensures none { line_policy lines_with_denying_line_first 0 ≡ plain false }
 {}
 
 /// The origin of a line.
 pub fn worked_origins_of_line_numbers()
-    ensures denying { origin_of first_line_denies 1 ≡ None }
-    ensures allowing { origin_of first_line_denies 2 ≡ origin_8081 }
-    ensures behind_the_last { origin_of first_line_denies 3 ≡ None }
-    ensures none { origin_of line_without_cache 0 ≡ None }
+    ensures denying { origin_of lines_with_denying_line_first 1 ≡ None }
+    ensures allowing { origin_of lines_with_denying_line_first 2 ≡ origin_8081 }
+    ensures behind_the_last { origin_of lines_with_denying_line_first 3 ≡ None }
+    ensures none { origin_of lines_without_and_with_cache 0 ≡ None }
 {}
 
 /// The last byte of a line's path has to stand where it stands there; `/` asks for none.
-pub fn worked_tails_of_paths()
-    ensures tail { path_tail_of (codes "/admin") ≡ record { size = 6; last = 110 } }
-    ensures root { path_tail_of (codes "/") ≡ record { size = 0; last = 0 } }
-    ensures is_present { path_may_match_tail (path_tail_of (codes "/admin")) (codes "/login/x") ≡ true }
-    ensures other { path_may_match_tail (path_tail_of (codes "/admin")) (codes "/admit") ≡ false }
-    ensures short { path_may_match_tail (path_tail_of (codes "/admin")) (codes "/a") ≡ false }
-    ensures all { path_may_match_tail (path_tail_of (codes "/")) (codes "/x") ≡ true }
+pub fn worked_last_bytes_of_paths()
+    ensures tail { path_length_and_end_of (codes "/admin") ≡ record { size = 6; last = 110 } }
+    ensures root { path_length_and_end_of (codes "/") ≡ record { size = 0; last = 0 } }
+    ensures is_present { path_may_match_tail (path_length_and_end_of (codes "/admin")) (codes "/login/x") ≡ true }
+    ensures other { path_may_match_tail (path_length_and_end_of (codes "/admin")) (codes "/admit") ≡ false }
+    ensures short { path_may_match_tail (path_length_and_end_of (codes "/admin")) (codes "/a") ≡ false }
+    ensures all { path_may_match_tail (path_length_and_end_of (codes "/")) (codes "/x") ≡ true }
 {}
 
 /// The keys of numbers, as a table spells them.
@@ -424,33 +436,33 @@ pub fn worked_keys_of_numbers()
 /// A line in front takes another where its host, its methods and its path take those.
 #[tactic(auto, unfolding(crate::specs::NeverReached::line_covers_line))]
 pub fn worked_lines_never_reached()
-    ensures same { line_covers_line (line_with_method None (codes "GET") (codes "/a") origin_8081)
-        (line_with_method None (codes "GET") (codes "/a") None) ≡ true }
-    ensures below { line_covers_line (line_with_method None (codes "GET") (codes "/a") origin_8081)
-        (line_with_method None (codes "GET") (codes "/a/b") None) ≡ true }
-    ensures above { line_covers_line (line_with_method None (codes "GET") (codes "/a/b") origin_8081)
-        (line_with_method None (codes "GET") (codes "/a") None) ≡ false }
-    ensures beside { line_covers_line (line_with_method None (codes "GET") (codes "/a") origin_8081)
-        (line_with_method None (codes "GET") (codes "/ab") None) ≡ false }
-    ensures root { line_covers_line (line_with_method None (codes "GET") (codes "/") origin_8081)
-        (line_with_method None (codes "GET") (codes "/admin") None) ≡ true }
-    ensures under_root { line_covers_line (line_with_method None (codes "GET") (codes "/a") origin_8081)
-        (line_with_method None (codes "GET") (codes "/") None) ≡ false }
-    ensures any_method { line_covers_line (line_with_method None (codes "*") (codes "/") origin_8081)
-        (line_with_method None (codes "POST") (codes "/") None) ≡ true }
-    ensures other_method { line_covers_line (line_with_method None (codes "GET") (codes "/") origin_8081)
-        (line_with_method None (codes "POST") (codes "/") None) ≡ false }
-    ensures one_of_all { line_covers_line (line_with_method None (codes "GET") (codes "/") origin_8081)
-        (line_with_method None (codes "*") (codes "/") None) ≡ false }
-    ensures any_host { line_covers_line (line_with_method None (codes "GET") (codes "/") origin_8081)
-        (line_with_method (Some (codes "x")) (codes "GET") (codes "/") None) ≡ true }
-    ensures one_host { line_covers_line (line_with_method (Some (codes "x")) (codes "GET") (codes "/") origin_8081)
-        (line_with_method None (codes "GET") (codes "/") None) ≡ false }
-    ensures other_host { line_covers_line (line_with_method (Some (codes "x")) (codes "GET") (codes "/") origin_8081)
-        (line_with_method (Some (codes "y")) (codes "GET") (codes "/") None) ≡ false }
-    ensures denial_in_front { first_covering_line first_line_denies 2 ≡ None }
-    ensures denial_behind { first_covering_line (line_with_method None (codes "*") (codes "/") origin_8081
-        ∷ line_with_method None (codes "*") (codes "/admin") None ∷ []) 2 ≡ Some 1 }
-    ensures first { first_covering_line first_line_denies 1 ≡ None }
-    ensures missing { first_covering_line first_line_denies 3 ≡ None }
+    ensures same { line_covers_line (example_line_with_method None (codes "GET") (codes "/a") origin_8081)
+        (example_line_with_method None (codes "GET") (codes "/a") None) ≡ true }
+    ensures below { line_covers_line (example_line_with_method None (codes "GET") (codes "/a") origin_8081)
+        (example_line_with_method None (codes "GET") (codes "/a/b") None) ≡ true }
+    ensures above { line_covers_line (example_line_with_method None (codes "GET") (codes "/a/b") origin_8081)
+        (example_line_with_method None (codes "GET") (codes "/a") None) ≡ false }
+    ensures beside { line_covers_line (example_line_with_method None (codes "GET") (codes "/a") origin_8081)
+        (example_line_with_method None (codes "GET") (codes "/ab") None) ≡ false }
+    ensures root { line_covers_line (example_line_with_method None (codes "GET") (codes "/") origin_8081)
+        (example_line_with_method None (codes "GET") (codes "/admin") None) ≡ true }
+    ensures under_root { line_covers_line (example_line_with_method None (codes "GET") (codes "/a") origin_8081)
+        (example_line_with_method None (codes "GET") (codes "/") None) ≡ false }
+    ensures any_method { line_covers_line (example_line_with_method None (codes "*") (codes "/") origin_8081)
+        (example_line_with_method None (codes "POST") (codes "/") None) ≡ true }
+    ensures other_method { line_covers_line (example_line_with_method None (codes "GET") (codes "/") origin_8081)
+        (example_line_with_method None (codes "POST") (codes "/") None) ≡ false }
+    ensures one_of_all { line_covers_line (example_line_with_method None (codes "GET") (codes "/") origin_8081)
+        (example_line_with_method None (codes "*") (codes "/") None) ≡ false }
+    ensures any_host { line_covers_line (example_line_with_method None (codes "GET") (codes "/") origin_8081)
+        (example_line_with_method (Some (codes "x")) (codes "GET") (codes "/") None) ≡ true }
+    ensures one_host { line_covers_line (example_line_with_method (Some (codes "x")) (codes "GET") (codes "/") origin_8081)
+        (example_line_with_method None (codes "GET") (codes "/") None) ≡ false }
+    ensures other_host { line_covers_line (example_line_with_method (Some (codes "x")) (codes "GET") (codes "/") origin_8081)
+        (example_line_with_method (Some (codes "y")) (codes "GET") (codes "/") None) ≡ false }
+    ensures denial_in_front { first_line_covering_line lines_with_denying_line_first 2 ≡ None }
+    ensures denial_behind { first_line_covering_line (example_line_with_method None (codes "*") (codes "/") origin_8081
+        ∷ example_line_with_method None (codes "*") (codes "/admin") None ∷ []) 2 ≡ Some 1 }
+    ensures first { first_line_covering_line lines_with_denying_line_first 1 ≡ None }
+    ensures missing { first_line_covering_line lines_with_denying_line_first 3 ≡ None }
 {}

@@ -9,7 +9,7 @@ use Rattle.std.proofs.lemmas.Slice.Eq.{bytes_eq-Decides}
 use Rattle.hx_fields.specs.Names.{is_same_name, members_of_value, joined_lists}
 use Rattle.hx_fields.specs.FieldLines.{is_named, without_named}
 use Rattle.hx_fields.specs.Line.{Field}
-use Rattle.hx_directives.specs.Occurrences.{occurrence_of, occurrences_of}
+use Rattle.hx_directives.specs.Occurrences.{occurrence_of_member, occurrences_of}
 
 module _ (name other : List ℕ) (differ : (q : List ℕ) → is_same_name q name ≡ true → is_same_name q other ≡ false) where
   -- the lines of a name are still there
@@ -48,11 +48,11 @@ other_length q a b lengths t = elim (cases_Bool (is_same_name q b)) [
 -- so what is left says the same directives
 pub without_others : (other : List ℕ) → (length (codes "Cache-Control") ≡ length other → ⊥) → (fields : List Field) → occurrences_of (without_named fields other) ≡ occurrences_of fields
 without_others other lengths fields =
-    ap (λ (lines : List Field). filter_map occurrence_of (joined_lists (map members_of_value (map (λ (f : Field). f.value) lines))))
+    ap (λ (lines : List Field). filter_map occurrence_of_member (joined_lists (map members_of_value (map (λ (f : Field). f.value) lines))))
     (of_name_stay (codes "Cache-Control") other (λ q t. other_length q (codes "Cache-Control") other lengths t) fields)
 
 pub without_age : (fields : List Field) → occurrences_of (without_named fields (codes "Age")) ≡ occurrences_of fields
 without_age = without_others (codes "Age") (λ h. omega (arith, h))
 
-pub without_cookies : (fields : List Field) → occurrences_of (without_named fields (codes "Set-Cookie")) ≡ occurrences_of fields
-without_cookies = without_others (codes "Set-Cookie") (λ h. omega (arith, h))
+pub without_set_cookie_if : (fields : List Field) → occurrences_of (without_named fields (codes "Set-Cookie")) ≡ occurrences_of fields
+without_set_cookie_if = without_others (codes "Set-Cookie") (λ h. omega (arith, h))

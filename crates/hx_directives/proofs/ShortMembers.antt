@@ -4,7 +4,7 @@ use Rattle.std.specs.Prelude.{filter, find, position, unwrap_or, option_map}
 use Rattle.std.specs.List.{cons_option, filter_map, prefix_len, suffix_len}
 use Rattle.std.proofs.lemmas.Bool.{cases_Bool}
 use Rattle.std.proofs.lemmas.List.{length-drop, length-take}
-use Rattle.hx_fields.specs.LongMembers.{has_at_least_bytes, members_of_least_length}
+use Rattle.hx_fields.specs.LongMembers.{is_at_least_bytes_long, members_of_at_least_length}
 use Rattle.hx_fields.specs.Names.{is_blank, is_same_name, members_of_value}
 use Rattle.hx_fields.specs.Tokens.{is_token}
 use Rattle.hx_fields.proofs.LongNames.{is_shorter, shorter_differs}
@@ -15,7 +15,7 @@ use Rattle.hx_directives.specs.declared.names.Directive.TheVariants.{StaleWhileR
 use Rattle.hx_directives.specs.declared.names.Directive.TheVariants.{NoCache, NoStore, OnlyIfCached, MustRevalidate}
 use Rattle.hx_directives.specs.declared.names.Directive.TheVariants.{ProxyRevalidate, MustUnderstand, Private, Public}
 use Rattle.hx_directives.specs.declared.occurrences.Occurrence.{Occurrence}
-use Rattle.hx_directives.specs.Occurrences.{all_directives, directive_name, directive_of, is_equals_sign, member_argument, member_name, occurrence_of}
+use Rattle.hx_directives.specs.Occurrences.{all_directives, directive_name, directive_of, is_equals_sign, member_argument, member_name, occurrence_of_member}
 
 six_at_least : (d : Directive) → 6 ≤ length (directive_name d)
 six_at_least MaxAge = omega arith
@@ -52,7 +52,7 @@ name_is_shorter member =
     let k = prefix_len is_blank front in
     omega (arith, part_is_shorter (length (drop k front) - suffix_len is_blank (drop k front)) k front, length-take n member)
 
-spells_none : (member : List ℕ) → length member < 6 → occurrence_of member ≡ None
+spells_none : (member : List ℕ) → length member < 6 → occurrence_of_member member ≡ None
 spells_none member h =
     let name = member_name member in
     let with : Option Directive → Option Occurrence = option_map (λ d. record { directive = d; argument = seconds_of_argument (member_argument member) }) in
@@ -62,16 +62,16 @@ spells_none member h =
     shorter_name : length member < 6 → length (member_name member) < 6
     shorter_name k = omega (arith, name_is_shorter member)
 
-over_members : (members : List (List ℕ)) → filter_map occurrence_of (filter (has_at_least_bytes 6) members) ≡ filter_map occurrence_of members
+over_members : (members : List (List ℕ)) → filter_map occurrence_of_member (filter (is_at_least_bytes_long 6) members) ≡ filter_map occurrence_of_member members
 over_members [] = refl
 over_members (member ∷ members) =
     let more = over_members members in
-    elim (cases_Bool (has_at_least_bytes 6 member)) [
-      | inl t ↦ ap (λ b. filter_map occurrence_of (cond b (member ∷ filter (has_at_least_bytes 6) members) (filter (has_at_least_bytes 6) members))) t
-          ∙ ap (λ os. cons_option (occurrence_of member) os) more
-      | inr f ↦ ap (λ b. filter_map occurrence_of (cond b (member ∷ filter (has_at_least_bytes 6) members) (filter (has_at_least_bytes 6) members))) f
-          ∙ more ∙ sym (ap (λ o. cons_option o (filter_map occurrence_of members)) (spells_none member (is_shorter 6 member f)))
+    elim (cases_Bool (is_at_least_bytes_long 6 member)) [
+      | inl t ↦ ap (λ b. filter_map occurrence_of_member (cond b (member ∷ filter (is_at_least_bytes_long 6) members) (filter (is_at_least_bytes_long 6) members))) t
+          ∙ ap (λ os. cons_option (occurrence_of_member member) os) more
+      | inr f ↦ ap (λ b. filter_map occurrence_of_member (cond b (member ∷ filter (is_at_least_bytes_long 6) members) (filter (is_at_least_bytes_long 6) members))) f
+          ∙ more ∙ sym (ap (λ o. cons_option o (filter_map occurrence_of_member members)) (spells_none member (is_shorter 6 member f)))
     ]
 
-pub short_members_spell_none : (value : List ℕ) → filter_map occurrence_of (members_of_least_length 6 value) ≡ filter_map occurrence_of (members_of_value value)
+pub short_members_spell_none : (value : List ℕ) → filter_map occurrence_of_member (members_of_at_least_length 6 value) ≡ filter_map occurrence_of_member (members_of_value value)
 short_members_spell_none value = over_members (members_of_value value)

@@ -17,7 +17,7 @@ use Rattle.hx_directives.specs.declared.names.Directive.TheVariants.{ProxyRevali
 use Rattle.hx_directives.specs.Arguments.{seconds_of_argument}
 use Rattle.hx_directives.specs.declared.arguments.Argument.{Argument}
 use Rattle.hx_directives.specs.declared.occurrences.Occurrence.{Occurrence}
-use Rattle.hx_directives.specs.Occurrences.{all_directives, directive_name, directive_of, member_argument, member_name, occurrence_of}
+use Rattle.hx_directives.specs.Occurrences.{all_directives, directive_name, directive_of, member_argument, member_name, occurrence_of_member}
 
 -- a letter is a token's byte in both cases
 upper_is : (b : ℕ) → is_ascii_uppercase b ≡ true → is_token_byte b ≡ true
@@ -90,7 +90,7 @@ only_tokens_spell name = elim (cases_Bool (is_token name)) [
 ]
 
 pub spelled : (member : List ℕ) (d : Directive) (a : Argument) → directive_of (member_name member) ≡ Some d → a ≡ seconds_of_argument (member_argument member)
-    → Some record { directive = d; argument = a } ≡ occurrence_of member
+    → Some record { directive = d; argument = a } ≡ occurrence_of_member member
 spelled member d a found told =
     let with : Option Directive → Option Occurrence = option_map (λ e. record { directive = e; argument = seconds_of_argument (member_argument member) }) in
     let one : Argument → Occurrence = λ b. record { directive = d; argument = b } in

@@ -45,8 +45,8 @@ seconds_of_directive found d = of_arguments (arguments_of_directive found d)
 
 -- the first valid seconds of a directive
 -- own: a request's invalid arguments are ignored
-abbrev pub first_valid : List Occurrence → Directive → Option ℕ
-first_valid found d = slice_get (filter_map argument_seconds (arguments_of_directive found d)) 0
+abbrev pub first_valid_seconds : List Occurrence → Directive → Option ℕ
+first_valid_seconds found d = slice_get (filter_map argument_seconds (arguments_of_directive found d)) 0
 
 -- how stale a response a request accepts, by the first `max-stale` that has no argument or valid seconds
 -- (RFC 9111, section 5.2.1.2)

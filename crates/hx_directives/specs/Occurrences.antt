@@ -53,16 +53,16 @@ member_argument member = option_map (λ i. trimmed (drop (i + 1) member)) (posit
 
 -- the directive that a member spells, with its argument
 -- own: a name that is no token drops the member
-abbrev pub occurrence_of : List ℕ → Option Occurrence
-occurrence_of member =
+abbrev pub occurrence_of_member : List ℕ → Option Occurrence
+occurrence_of_member member =
     option_map (λ d. record { directive = d; argument = seconds_of_argument (member_argument member) })
     (if is_token (member_name member) then directive_of (member_name member) else None)
 
 -- the directives of one line; another line than Cache-Control has none
-abbrev pub line_occurrences : Field → List Occurrence
-line_occurrences line =
-    if is_same_name line.name (codes "Cache-Control") then filter_map occurrence_of (members_of_value line.value) else []
+abbrev pub directives_of_field_line : Field → List Occurrence
+directives_of_field_line line =
+    if is_same_name line.name (codes "Cache-Control") then filter_map occurrence_of_member (members_of_value line.value) else []
 
 -- the directives that occur, in order
 abbrev pub occurrences_of : List Field → List Occurrence
-occurrences_of fields = filter_map occurrence_of (members_of fields (codes "Cache-Control"))
+occurrences_of fields = filter_map occurrence_of_member (members_of fields (codes "Cache-Control"))

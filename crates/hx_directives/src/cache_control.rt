@@ -5,16 +5,16 @@
 ghost use Rattle.std.specs.Prelude.{◌≡◌, ◌++◌, ◌∷◌, [], IfOk, OnOk, MatchOption};
 ghost use Rattle.std.specs.List.{filter_map};
 ghost use Rattle.hx_fields.specs.Names.{members_of_value};
-ghost use Rattle.hx_directives.specs.Occurrences.{occurrence_of, line_occurrences, occurrences_of};
+ghost use Rattle.hx_directives.specs.Occurrences.{occurrence_of_member, directives_of_field_line, occurrences_of};
 ghost use Rattle.hx_directives.specs.Answers.{directive_occurs, arguments_of_directive, seconds_of_directive};
-ghost use Rattle.hx_directives.specs.Answers.{first_valid};
+ghost use Rattle.hx_directives.specs.Answers.{first_valid_seconds};
 ghost use Rattle.hx_directives.specs.Answers.{max_stale};
 
 use crate::answers::{MaxStale, Seconds};
 use crate::arguments::Argument;
 use crate::limits::SHORTEST_DIRECTIVE_NAME_BYTES;
 use crate::names::Directive;
-use crate::occurrences::{Occurrence, occurrence_of};
+use crate::occurrences::{Occurrence, occurrence_of_member};
 use hx_fields::{Field, Fields, is_same_name, next_long_member};
 use smallvec::SmallVec;
 use std::alloc::{AllocError, Global};
@@ -74,8 +74,8 @@ impl Directives {
     }
 
     /// The first valid seconds of a directive; invalid ones are ignored.
-    pub fn first_valid(&self, directive: Directive) -> Option<u32>
-        ensures { result ≡ first_valid self.now directive }
+    pub fn first_valid_seconds(&self, directive: Directive) -> Option<u32>
+        ensures { result ≡ first_valid_seconds self.now directive }
     {
         for o in self.found.as_slice() {
             if let Argument::Delta(n) = o.argument {
@@ -119,7 +119,7 @@ fn push_line(
     found: &mut SmallVec<Occurrence, 2>,
     line: &Field,
 ) -> Result<(), AllocError>
-    ensures { OnOk result (found.new.items ≡ found.old.items ++ line_occurrences line.now) }
+    ensures { OnOk result (found.new.items ≡ found.old.items ++ directives_of_field_line line.now) }
 {
     if is_same_name(line.name(), b"Cache-Control") {
         push_value(alloc, found, line.value())?;
@@ -133,11 +133,12 @@ fn push_value(
     found: &mut SmallVec<Occurrence, 2>,
     value: &[u8],
 ) -> Result<(), AllocError>
-    ensures { OnOk result (found.new.items ≡ found.old.items ++ filter_map occurrence_of (members_of_value value.now)) }
+    ensures { OnOk result
+        (found.new.items ≡ found.old.items ++ filter_map occurrence_of_member (members_of_value value.now)) }
 {
     let mut rest = value;
     while let Some((member, after)) = next_long_member(rest, SHORTEST_DIRECTIVE_NAME_BYTES) {
-        if let Some(occurrence) = occurrence_of(alloc, member)? {
+        if let Some(occurrence) = occurrence_of_member(alloc, member)? {
             found.push(occurrence)?;
         }
         rest = after;

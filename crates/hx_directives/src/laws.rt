@@ -6,7 +6,7 @@ ghost use Rattle.hx_directives.specs.Occurrences.{directive_of, directive_name, 
 ghost use Rattle.hx_directives.specs.declared.names.Directive.{Directive as Read};
 ghost use Rattle.hx_directives.specs.declared.names.Directive.TheVariants as directive;
 ghost use Rattle.hx_directives.specs.declared.arguments.Argument.TheVariants as argument;
-ghost use Rattle.hx_directives.specs.Answers.{directive_occurs, seconds_of_directive, first_valid, max_stale};
+ghost use Rattle.hx_directives.specs.Answers.{directive_occurs, seconds_of_directive, first_valid_seconds, max_stale};
 ghost use Rattle.hx_directives.specs.Arguments.{seconds_of_argument, text_without_quotes};
 ghost use Rattle.hx_directives.specs.Seconds.{capped, seconds_of};
 ghost use Rattle.hx_directives.specs.Cases.{cache_control_line, directives_of_value, quoted_text};
@@ -38,7 +38,7 @@ pub fn seconds_are_capped()
 {}
 
 /// Both directives are seen, so the rule can set one against the other.
-pub fn must_understand_overrides_no_store()
+pub fn must_understand_and_no_store_are_both_read()
     ensures must_understand { directive_occurs (directives_of_value (codes "must-understand, no-store, max-age=60")) Directive.MustUnderstand
         ≡ true }
     ensures no_store { directive_occurs (directives_of_value (codes "must-understand, no-store, max-age=60")) Directive.NoStore
@@ -48,9 +48,9 @@ pub fn must_understand_overrides_no_store()
 {}
 
 /// The requests and responses of the least reuse rules, read.
-pub fn least_reuse_rule()
+pub fn worked_directive_readings()
     ensures no_cache { directive_occurs (directives_of_value (codes "no-cache, max-age=60")) Directive.NoCache ≡ true }
-    ensures no_age { first_valid (directives_of_value (codes "no-cache, max-age=0")) Directive.MaxAge ≡ Some 0 }
+    ensures no_age { first_valid_seconds (directives_of_value (codes "no-cache, max-age=0")) Directive.MaxAge ≡ Some 0 }
     ensures must_revalidate { directive_occurs (directives_of_value (codes "must-revalidate")) Directive.MustRevalidate ≡ true }
     ensures up_to { max_stale (directives_of_value (codes "max-stale=5, max-age=0")) ≡ MaxStale.UpTo 5 }
     ensures any { max_stale (directives_of_value (codes "max-stale=x, max-stale")) ≡ MaxStale.Any }
@@ -107,9 +107,9 @@ pub fn worked_arguments()
 
 /// Of a request's directive the first valid seconds count, and no max-stale takes no stale response.
 pub fn worked_first_valid_seconds()
-    ensures first { first_valid (directives_of_value (codes "max-age=x, max-age=5, max-age=6")) Directive.MaxAge ≡ Some 5 }
-    ensures without { first_valid (directives_of_value (codes "max-age, min-fresh=5")) Directive.MaxAge ≡ None }
-    ensures another { first_valid (directives_of_value (codes "max-age=1, min-fresh=5")) Directive.MinFresh ≡ Some 5 }
+    ensures first { first_valid_seconds (directives_of_value (codes "max-age=x, max-age=5, max-age=6")) Directive.MaxAge ≡ Some 5 }
+    ensures without { first_valid_seconds (directives_of_value (codes "max-age, min-fresh=5")) Directive.MaxAge ≡ None }
+    ensures another { first_valid_seconds (directives_of_value (codes "max-age=1, min-fresh=5")) Directive.MinFresh ≡ Some 5 }
     ensures no_max_stale { max_stale (directives_of_value (codes "max-age=1")) ≡ MaxStale.Absent }
     ensures any { max_stale (directives_of_value (codes "max-stale")) ≡ MaxStale.Any }
     ensures first_limit { max_stale (directives_of_value (codes "max-stale=1, max-stale=2")) ≡ MaxStale.UpTo 1 }

@@ -1,7 +1,7 @@
 //! From members of Cache-Control to directives.
 
 ghost use Rattle.std.specs.Prelude.{◌≡◌, ◌<◌, length, position, IfOk, IfSome, option_copied};
-ghost use Rattle.hx_directives.specs.Occurrences.{is_equals_sign, member_name, member_argument, occurrence_of};
+ghost use Rattle.hx_directives.specs.Occurrences.{is_equals_sign, member_name, member_argument, occurrence_of_member};
 
 use crate::arguments::{Argument, seconds_of_argument};
 use crate::names::{Directive, directive_of};
@@ -16,8 +16,8 @@ pub struct Occurrence {
 }
 
 /// The directive that a member spells.
-pub fn occurrence_of(alloc: Global, member: &[u8]) -> Result<Option<Occurrence>, AllocError>
-    ensures { IfOk result (λ o. o ≡ occurrence_of member.now) }
+pub fn occurrence_of_member(alloc: Global, member: &[u8]) -> Result<Option<Occurrence>, AllocError>
+    ensures { IfOk result (λ o. o ≡ occurrence_of_member member.now) }
 {
     // What is no token spells no directive, since each directive's name is one.
     let (name, argument) = name_and_argument(member);

@@ -8,7 +8,7 @@ use Rattle.std.proofs.lemmas.Bool.{cases_Bool}
 use Rattle.std.proofs.lemmas.Bool.Decides.{nat_tests}
 use Rattle.std.proofs.lemmas.List.{length-map}
 use Rattle.std.proofs.lemmas.Slice.Eq.{bytes_eq-Decides}
-use Rattle.hx_fields.specs.LongMembers.{has_at_least_bytes}
+use Rattle.hx_fields.specs.LongMembers.{is_at_least_bytes_long}
 use Rattle.hx_fields.specs.Names.{is_same_name}
 
 pub shorter_differs : (a b : List ℕ) → length a < length b → is_same_name a b ≡ false
@@ -20,16 +20,16 @@ shorter_differs a b h = elim (cases_Bool (is_same_name a b)) [
   | inr f ↦ f
 ]
 
-pub is_shorter : (least : ℕ) (text : List ℕ) → has_at_least_bytes least text ≡ false → length text < least
+pub is_shorter : (least : ℕ) (text : List ℕ) → is_at_least_bytes_long least text ≡ false → length text < least
 is_shorter least text h = grind (arith, nat_tests)
 
 -- where a test fails of each text that is short, the long ones alone are asked
-pub long_ones_decide : (least : ℕ) (P : List ℕ → Bool) → ((text : List ℕ) → length text < least → P text ≡ false) → (texts : List (List ℕ)) → list_any P (filter (has_at_least_bytes least) texts) ≡ list_any P texts
+pub long_ones_decide : (least : ℕ) (P : List ℕ → Bool) → ((text : List ℕ) → length text < least → P text ≡ false) → (texts : List (List ℕ)) → list_any P (filter (is_at_least_bytes_long least) texts) ≡ list_any P texts
 long_ones_decide least P fails [] = refl
 long_ones_decide least P fails (text ∷ texts) =
     let more = long_ones_decide least P fails texts in
-    elim (cases_Bool (has_at_least_bytes least text)) [
-      | inl t ↦ ap (λ b. list_any P (cond b (text ∷ filter (has_at_least_bytes least) texts) (filter (has_at_least_bytes least) texts))) t ∙ ap (λ b. P text || b) more
-      | inr f ↦ ap (λ b. list_any P (cond b (text ∷ filter (has_at_least_bytes least) texts) (filter (has_at_least_bytes least) texts))) f ∙ more
+    elim (cases_Bool (is_at_least_bytes_long least text)) [
+      | inl t ↦ ap (λ b. list_any P (cond b (text ∷ filter (is_at_least_bytes_long least) texts) (filter (is_at_least_bytes_long least) texts))) t ∙ ap (λ b. P text || b) more
+      | inr f ↦ ap (λ b. list_any P (cond b (text ∷ filter (is_at_least_bytes_long least) texts) (filter (is_at_least_bytes_long least) texts))) f ∙ more
           ∙ ap (λ b. b || list_any P texts) (sym (fails text (is_shorter least text f)))
     ]

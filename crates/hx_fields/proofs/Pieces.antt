@@ -7,7 +7,7 @@ use Rattle.std.proofs.lemmas.Grind.{common_steps}
 use Rattle.std.proofs.lemmas.Bool.{cases_Bool}
 use Rattle.std.specs.List.{prefix_len, suffix_len}
 pub use Rattle.hx_fields.specs.Names.{all_in_front}
-use Rattle.hx_fields.specs.Names.{pieces, pieces_with_first_byte, is_separating_comma, quote_state_after, trimmed, is_nonempty, is_blank, members_of_value}
+use Rattle.hx_fields.specs.Names.{pieces, byte_before_first_piece, is_separating_comma, quote_state_after, trimmed, is_nonempty, is_blank, members_of_value}
 use Rattle.hx_fields.specs.Names.{QuoteState, Outside, Quoted, Escaped}
 
 -- the members among some pieces
@@ -15,7 +15,7 @@ abbrev pub kept : List (List ℕ) → List (List ℕ)
 kept ps = filter is_nonempty (map trimmed ps)
 
 -- a byte in front is one more byte of the front
-pub all_in_front-in_front : (cur : List ℕ) (b : ℕ) (ps : List (List ℕ)) → all_in_front cur (pieces_with_first_byte b ps) ≡ all_in_front (cur ++ b ∷ []) ps
+pub all_in_front-in_front : (cur : List ℕ) (b : ℕ) (ps : List (List ℕ)) → all_in_front cur (byte_before_first_piece b ps) ≡ all_in_front (cur ++ b ∷ []) ps
 all_in_front-in_front cur b [] = refl
 all_in_front-in_front cur b (p ∷ ps) = ap (λ q. q ∷ ps) (sym (append_assoc cur (b ∷ []) p))
 
@@ -23,12 +23,12 @@ all_in_front-in_front cur b (p ∷ ps) = ap (λ q. q ∷ ps) (sym (append_assoc 
 pub all_in_front-nil : (place : QuoteState) (text : List ℕ) → all_in_front [] (pieces place text) ≡ pieces place text
 all_in_front-nil place [] = refl
 all_in_front-nil place (b ∷ bs) =
-    let P : List (List ℕ) → Type 0 = λ ps. all_in_front [] (pieces_with_first_byte b ps) ≡ pieces_with_first_byte b ps in
+    let P : List (List ℕ) → Type 0 = λ ps. all_in_front [] (byte_before_first_piece b ps) ≡ byte_before_first_piece b ps in
     let front : P (pieces (quote_state_after place b) bs) = front_of b (pieces (quote_state_after place b) bs) in
-    elim (is_separating_comma place b) as (λ t. all_in_front [] (cond t ([] ∷ pieces Outside bs) (pieces_with_first_byte b (pieces (quote_state_after place b) bs)))
-    ≡ cond t ([] ∷ pieces Outside bs) (pieces_with_first_byte b (pieces (quote_state_after place b) bs))) [ true ↦ refl | false ↦ front ]
+    elim (is_separating_comma place b) as (λ t. all_in_front [] (cond t ([] ∷ pieces Outside bs) (byte_before_first_piece b (pieces (quote_state_after place b) bs)))
+    ≡ cond t ([] ∷ pieces Outside bs) (byte_before_first_piece b (pieces (quote_state_after place b) bs))) [ true ↦ refl | false ↦ front ]
   where
-    front_of : (b : ℕ) (ps : List (List ℕ)) → all_in_front [] (pieces_with_first_byte b ps) ≡ pieces_with_first_byte b ps
+    front_of : (b : ℕ) (ps : List (List ℕ)) → all_in_front [] (byte_before_first_piece b ps) ≡ byte_before_first_piece b ps
     front_of b [] = refl
     front_of b (p ∷ ps) = refl
 
@@ -43,7 +43,7 @@ next_place-cuts Quoted b h = cc
 next_place-cuts Escaped b h = cc
 
 -- the pieces at a byte that doesn't cut, and at one that does
-pub pieces-goes_on : (place : QuoteState) (b : ℕ) (bs : List ℕ) → is_separating_comma place b ≡ false → pieces place (b ∷ bs) ≡ pieces_with_first_byte b (pieces (quote_state_after place b) bs)
+pub pieces-goes_on : (place : QuoteState) (b : ℕ) (bs : List ℕ) → is_separating_comma place b ≡ false → pieces place (b ∷ bs) ≡ byte_before_first_piece b (pieces (quote_state_after place b) bs)
 pieces-goes_on place b bs h = rw h refl
 
 pub pieces-cut : (place : QuoteState) (b : ℕ) (bs : List ℕ) → is_separating_comma place b ≡ true → pieces place (b ∷ bs) ≡ [] ∷ pieces Outside bs
@@ -102,7 +102,7 @@ blank_is_trimmed b p h =
     one_more : (n : ℕ) → 1 + n ≡ suc n
     one_more n = omega arith
 
-in_front_of_a_piece : (b : ℕ) (ps : List (List ℕ)) → is_blank b ≡ true → kept (pieces_with_first_byte b ps) ≡ kept ps
+in_front_of_a_piece : (b : ℕ) (ps : List (List ℕ)) → is_blank b ≡ true → kept (byte_before_first_piece b ps) ≡ kept ps
 in_front_of_a_piece b [] h = rw (blank_is_trimmed b [] h) refl
 in_front_of_a_piece b (p ∷ ps) h = ap (λ t. filter is_nonempty (t ∷ map trimmed ps)) (blank_is_trimmed b p h)
 
@@ -115,7 +115,7 @@ is_no_quote b h = grind (arith, common_steps)
 blank_in_front : (b : ℕ) (bs : List ℕ) → is_blank b ≡ true → members_of_value (b ∷ bs) ≡ members_of_value bs
 blank_in_front b bs h =
     ap kept (pieces-goes_on Outside b bs (is_no_comma b h))
-    ∙ ap (λ place. kept (pieces_with_first_byte b (pieces place bs))) (is_no_quote b h)
+    ∙ ap (λ place. kept (byte_before_first_piece b (pieces place bs))) (is_no_quote b h)
     ∙ in_front_of_a_piece b (pieces Outside bs) h
 
 pub separator_in_front : (b : ℕ) (bs : List ℕ) → (is_blank b || b == 44) ≡ true → members_of_value (b ∷ bs) ≡ members_of_value bs

@@ -6,7 +6,7 @@ use Rattle.std.proofs.lemmas.Bool.{cases_Bool}
 use Rattle.std.proofs.lemmas.Bool.Decides.{nat_tests}
 use Rattle.std.proofs.lemmas.List.{length-drop, length-take}
 use Rattle.std.proofs.lemmas.List.Elements.{filter-append}
-use Rattle.hx_fields.specs.LongMembers.{has_at_least_bytes, members_of_least_length}
+use Rattle.hx_fields.specs.LongMembers.{is_at_least_bytes_long, members_of_at_least_length}
 use Rattle.hx_fields.specs.Names.{trimmed, is_blank, is_nonempty, members_of_value, member_of_piece}
 use Rattle.hx_fields.proofs.Pieces.{kept}
 
@@ -19,14 +19,14 @@ trimmed_is_shorter text =
     let k = prefix_len is_blank text in
     part_is_shorter (length (drop k text) - suffix_len is_blank (drop k text)) k text
 
-too_short : (least : ℕ) (text : List ℕ) → length text < least → has_at_least_bytes least text ≡ false
+too_short : (least : ℕ) (text : List ℕ) → length text < least → is_at_least_bytes_long least text ≡ false
 too_short least text h = grind (arith, nat_tests)
 
-short_piece : (least : ℕ) (p : List ℕ) → length p < least → filter (has_at_least_bytes least) (kept (p ∷ [])) ≡ []
+short_piece : (least : ℕ) (p : List ℕ) → length p < least → filter (is_at_least_bytes_long least) (kept (p ∷ [])) ≡ []
 short_piece least p h = elim (cases_Bool (is_nonempty (trimmed p))) [
-  | inl t ↦ ap (λ b. filter (has_at_least_bytes least) (cond b (trimmed p ∷ []) [])) t
+  | inl t ↦ ap (λ b. filter (is_at_least_bytes_long least) (cond b (trimmed p ∷ []) [])) t
       ∙ ap (λ b. cond b (trimmed p ∷ []) []) (too_short least (trimmed p) (short_trimmed h))
-  | inr f ↦ ap (λ b. filter (has_at_least_bytes least) (cond b (trimmed p ∷ []) [])) f
+  | inr f ↦ ap (λ b. filter (is_at_least_bytes_long least) (cond b (trimmed p ∷ []) [])) f
 ]
   where
     short_trimmed : length p < least → length (trimmed p) < least

@@ -9,8 +9,8 @@ abbrev pub first_byte : List ℕ → ℕ
 first_byte text = to_ascii_lowercase (slice_index_or text 0 0)
 
 -- a text begins with one of these bytes
-abbrev pub begins_with_one_of : List Bool → List ℕ → Bool
-begins_with_one_of firsts text = slice_index_or firsts (first_byte text) false
+abbrev pub first_byte_is_one_of : List Bool → List ℕ → Bool
+first_byte_is_one_of firsts text = slice_index_or firsts (first_byte text) false
 
-abbrev pub members_beginning_in : List Bool → List ℕ → List (List ℕ)
-members_beginning_in firsts value = filter (begins_with_one_of firsts) (members_of_value value)
+abbrev pub members_with_first_byte_in : List Bool → List ℕ → List (List ℕ)
+members_with_first_byte_in firsts value = filter (first_byte_is_one_of firsts) (members_of_value value)

@@ -1,7 +1,7 @@
 -- Names in lower case, and their order: by a number of each, then by bytes. Two tie in it exactly where they are one.
 --
 -- folded: a name in lower case            number_of: what tells most of two apart
--- folded_cmp: which of two comes first
+-- folded_names_cmp: which of two comes first
 use Rattle.std.specs.Prelude.{◌≡◌, ◌==◌, ◌&&◌, ◌+◌, ◌*◌, ◌%◌, ◌^◌, ℕ, List, Bool, true, false, bytes_eq, refl}
 use Rattle.std.specs.List.{fold}
 use Rattle.std.specs.Str.{str_to_ascii_lowercase}
@@ -18,16 +18,16 @@ abbrev pub folded : List ℕ → List ℕ
 folded name = str_to_ascii_lowercase name
 
 -- the bytes as digits to a base of 257, so that no two names of up to seven bytes have one number
-abbrev pub bytes_as_digits : ℕ → ℕ → ℕ
-bytes_as_digits number byte = ((number * 257) % 2 ^ 64 + byte) % 2 ^ 64
+abbrev pub number_with_byte_as_digit : ℕ → ℕ → ℕ
+number_with_byte_as_digit number byte = ((number * 257) % 2 ^ 64 + byte) % 2 ^ 64
 
 unfoldable pub number_of : List ℕ → ℕ
-number_of name = fold bytes_as_digits 0 name
+number_of name = fold number_with_byte_as_digit 0 name
 
-abbrev pub folded_cmp : List ℕ → List ℕ → Ordering
-folded_cmp a b = ordering_then (nat_cmp (number_of a) (number_of b)) (slice_cmp nat_cmp a b)
+abbrev pub folded_names_cmp : List ℕ → List ℕ → Ordering
+folded_names_cmp a b = ordering_then (nat_cmp (number_of a) (number_of b)) (slice_cmp nat_cmp a b)
 
-pub folded_cmp_total : IsTotalOrder folded_cmp
+pub folded_cmp_total : IsTotalOrder folded_names_cmp
 folded_cmp_total = then_total (on_total number_of nat_cmp_total) nat_list_cmp_total
 
 -- equal bytes have one number, so the numbers may be asked first
@@ -37,7 +37,7 @@ as_numbered true false h = sym (h refl)
 as_numbered false true h = refl
 as_numbered false false h = refl
 
-pub folded_cmp_ties_are_equal : (a b : List ℕ) → bytes_eq a b ≡ eq_by_cmp folded_cmp a b
+pub folded_cmp_ties_are_equal : (a b : List ℕ) → bytes_eq a b ≡ eq_by_cmp folded_names_cmp a b
 folded_cmp_ties_are_equal a b =
     as_numbered (bytes_eq a b) (number_of a == number_of b)
     (λ e. eq-eqb (number_of a) (number_of b) (ap number_of ((bytes_eq-Decides a b).0 e)))

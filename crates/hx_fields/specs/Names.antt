@@ -58,15 +58,15 @@ is_separating_comma Quoted b = false
 is_separating_comma Escaped b = false
 
 -- a byte in front of the first piece
-abbrev pub pieces_with_first_byte : ℕ → List (List ℕ) → List (List ℕ)
-pieces_with_first_byte b [] = (b ∷ []) ∷ []
-pieces_with_first_byte b (p ∷ ps) = (b ∷ p) ∷ ps
+abbrev pub byte_before_first_piece : ℕ → List (List ℕ) → List (List ℕ)
+byte_before_first_piece b [] = (b ∷ []) ∷ []
+byte_before_first_piece b (p ∷ ps) = (b ∷ p) ∷ ps
 
 -- the pieces of a text between the commas that separate members; its first byte stands at this place
 abbrev pub pieces : QuoteState → List ℕ → List (List ℕ)
 pieces place [] = [] ∷ []
 pieces place (b ∷ bs) =
-    if is_separating_comma place b then [] ∷ pieces Outside bs else pieces_with_first_byte b
+    if is_separating_comma place b then [] ∷ pieces Outside bs else byte_before_first_piece b
     (pieces (quote_state_after place b) bs)
 
 -- these bytes in front of the first piece

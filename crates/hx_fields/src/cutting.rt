@@ -5,8 +5,8 @@ ghost use Rattle.std.specs.Option.{option_map};
 ghost use Rattle.std.specs.List.{prefix_len, suffix_len};
 ghost use Rattle.hx_fields.specs.Names.{is_same_name, is_blank, trimmed, members_of_value, member_of_piece};
 ghost use Rattle.hx_fields.specs.Names.{ValueRunsUncutTo, Outside, Quoted, split_at_first_byte};
-ghost use Rattle.hx_fields.specs.LongMembers.{members_of_least_length};
-ghost use Rattle.hx_fields.specs.FirstBytes.{members_beginning_in};
+ghost use Rattle.hx_fields.specs.LongMembers.{members_of_at_least_length};
+ghost use Rattle.hx_fields.specs.FirstBytes.{members_with_first_byte_in};
 
 use crate::first_bytes::FirstBytes;
 
@@ -146,8 +146,8 @@ pub fn next_member(value: &[u8]) -> Option<(&[u8], &[u8])>
 
 /// The first member of a value that has so many bytes at least, and what stands behind it.
 pub fn next_long_member(value: &[u8], least: usize) -> Option<(&[u8], &[u8])>
-    ensures members { MatchOption result (members_of_least_length least value.now ≡ [])
-        (λ r. members_of_least_length least value.now ≡ r.0.now ∷ members_of_least_length least r.1.now) }
+    ensures members { MatchOption result (members_of_at_least_length least value.now ≡ [])
+        (λ r. members_of_at_least_length least value.now ≡ r.0.now ∷ members_of_at_least_length least r.1.now) }
     ensures shorter { IfSome result (λ r. length r.1.now < length value.now) }
 {
     let mut start = 0;
@@ -165,12 +165,13 @@ pub fn next_long_member(value: &[u8], least: usize) -> Option<(&[u8], &[u8])>
 }
 
 /// The first member of a value that begins with one of these bytes, and what stands behind it.
-pub fn next_member_beginning_in<'a>(
+pub fn next_member_with_first_byte_in<'a>(
     value: &'a [u8],
     firsts: &FirstBytes,
 ) -> Option<(&'a [u8], &'a [u8])>
-    ensures members { MatchOption result (members_beginning_in firsts.now value.now ≡ [])
-        (λ r. members_beginning_in firsts.now value.now ≡ r.0.now ∷ members_beginning_in firsts.now r.1.now) }
+    ensures members { MatchOption result (members_with_first_byte_in firsts.now value.now ≡ [])
+        (λ r. members_with_first_byte_in firsts.now value.now
+        ≡ r.0.now ∷ members_with_first_byte_in firsts.now r.1.now) }
     ensures shorter { IfSome result (λ r. length r.1.now < length value.now) }
 {
     let mut start = 0;

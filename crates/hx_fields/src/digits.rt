@@ -2,7 +2,7 @@
 ghost use Rattle.std.specs.Prelude.{◌≡◌, ◌≤◌};
 ghost use Rattle.std.specs.Char.{digit_value};
 ghost use Rattle.std.specs.Str.Parse.{digits_value};
-ghost use Rattle.hx_fields.specs.SpelledNumbers.{number_at_most};
+ghost use Rattle.hx_fields.specs.SpelledNumbers.{number_if_at_most};
 
 /// The value of a digit or letter, up to 35, or 36 of any other byte.
 pub fn digit_value(b: u8) -> u8
@@ -20,10 +20,10 @@ pub fn digit_value(b: u8) -> u8
 /// The number that these digits spell in base `radix`, where it is at most `most`. There may be any
 /// number of them, and zeros in front. Which bytes are digits is the caller's to see: each counts
 /// as `digit_value` has it.
-pub fn number_up_to(most: u64, radix: u8, digits: &[u8]) -> Option<u64>
+pub fn digits_value_if_at_most(most: u64, radix: u8, digits: &[u8]) -> Option<u64>
     requires some { 1 ≤ radix }
     requires small { radix ≤ 36 }
-    ensures { result ≡ number_at_most most (digits_value radix digits.now) }
+    ensures { result ≡ number_if_at_most most (digits_value radix digits.now) }
 {
     let limit = most as u128;
     let mut number = 0u128;

@@ -94,7 +94,7 @@ impl Field {
     }
 
     /// The first n bytes of the value, which share the buffer that the line shares. Fails only where memory runs out.
-    pub fn value_part(&self, alloc: Global, n: usize) -> Result<Bytes, AllocError>
+    pub fn first_bytes_of_value(&self, alloc: Global, n: usize) -> Result<Bytes, AllocError>
         requires { n ≤ length self.now.value }
         ensures { IfOk result (λ part. part ≡ take n self.now.value) }
     {

@@ -4,7 +4,7 @@
 
 ghost use Rattle.std.specs.Prelude.{◌≡◌, ◌<◌, false, true, length, replicate, slice_set, slice_index_or};
 ghost use Rattle.std.specs.Char.{to_ascii_lowercase};
-ghost use Rattle.hx_fields.specs.FirstBytes.{begins_with_one_of, first_byte};
+ghost use Rattle.hx_fields.specs.FirstBytes.{first_byte_is_one_of, first_byte};
 
 use std::marker::Model;
 
@@ -58,7 +58,7 @@ impl FirstBytes {
 
     /// Whether a text begins with one of them.
     pub fn has_first_byte_of(&self, text: &[u8]) -> bool
-        ensures { result ≡ begins_with_one_of self.now text.now }
+        ensures { result ≡ first_byte_is_one_of self.now text.now }
     {
         self.are[usize::from(first_byte(text))]
     }

@@ -3,7 +3,8 @@
 ghost use Rattle.std.specs.Prelude.{◌≡◌, [], IfOk, OnOk, OnErr, Some, bytes_eq, refl};
 ghost use Rattle.std.specs.Cmp.{partial_equiv_from_equiv, partial_order_from_agreeing_total};
 ghost use Rattle.std.specs.Cmp.Lexicographic.{nat_list_eq_equiv};
-ghost use Rattle.hx_fields.specs.Folded.{folded, folded_cmp, folded_cmp_total, folded_cmp_ties_are_equal, number_of};
+ghost use Rattle.hx_fields.specs.Folded.{folded, folded_names_cmp, folded_cmp_total, folded_cmp_ties_are_equal};
+ghost use Rattle.hx_fields.specs.Folded.{number_of};
 
 use std::alloc::{AllocError, Global};
 use std::cmp::Ordering;
@@ -94,9 +95,9 @@ impl Eq for FoldedName {
 }
 
 impl PartialOrd for FoldedName {
-    ghost partial_cmp = { λ a b. Some (folded_cmp a b) };
+    ghost partial_cmp = { λ a b. Some (folded_names_cmp a b) };
 
-    ghost laws = { partial_order_from_agreeing_total folded_cmp folded_cmp_total
+    ghost laws = { partial_order_from_agreeing_total folded_names_cmp folded_cmp_total
         (λ _ _. refl) folded_cmp_ties_are_equal };
 
     fn partial_cmp(&self, other: &FoldedName) -> Option<Ordering> {
@@ -105,7 +106,7 @@ impl PartialOrd for FoldedName {
 }
 
 impl Ord for FoldedName {
-    ghost cmp = { folded_cmp };
+    ghost cmp = { folded_names_cmp };
 
     ghost total = { folded_cmp_total };
 

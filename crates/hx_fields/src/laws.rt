@@ -5,7 +5,7 @@ ghost use Rattle.hx_fields.specs.Names.{split_at_first_byte};
 ghost use Rattle.hx_fields.specs.Examples.{line};
 
 /// Commas in quotes and behind a backslash in quotes separate nothing; empty members don't count.
-pub fn members_are_cut_outside_quotes()
+pub fn worked_members_are_cut_outside_quotes()
     ensures quoted { members_of (line (codes "vary") (codes "a, \"b, c\" ,, d") ∷ []) (codes "Vary") ≡ codes "a" ∷ codes "\"b, c\"" ∷ codes "d" ∷ [] }
     ensures escaped { members_of (line (codes "x") (codes "\"a\\\", b\", c") ∷ []) (codes "X") ≡ codes "\"a\\\", b\"" ∷ codes "c" ∷ [] }
     ensures by_line { members_of (line (codes "x") (codes "a, \"b") ∷ line (codes "y") (codes "n")

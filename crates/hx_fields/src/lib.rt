@@ -22,15 +22,15 @@ mod tokens;
 
 pub use crate::byte_string::Bytes;
 pub use crate::cutting::{
-    is_same_name, next_long_member, next_member, next_member_beginning_in, split_at_first_byte,
-    trim_blanks,
+    is_same_name, next_long_member, next_member, next_member_with_first_byte_in,
+    split_at_first_byte, trim_blanks,
 };
-pub use crate::digits::{digit_value, number_up_to};
+pub use crate::digits::{digit_value, digits_value_if_at_most};
 pub use crate::field_line::Field;
 pub use crate::field_lines::Fields;
 pub use crate::first_bytes::FirstBytes;
 pub use crate::folded_names::FoldedName;
-pub use crate::limits::END_OF_TIME;
+pub use crate::limits::START_OF_YEAR_10000;
 pub use crate::member_list::Members;
 pub use crate::name_buckets::NameBuckets;
 pub use crate::tokens::is_token;

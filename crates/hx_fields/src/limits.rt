@@ -2,7 +2,7 @@
 
 /// The first second that no HTTP-date tells, since its year has four digits: the year 10000 begins,
 /// in Unix seconds (RFC 9110, section 5.6.7).
-pub const END_OF_TIME: u64 = 253_402_300_800;
+pub const START_OF_YEAR_10000: u64 = 253_402_300_800;
 
 /// So many bytes are worth a count of their owners. Fewer are copied at less cost.
 pub(crate) const LEAST_SHARED_BYTES: usize = 4096;

@@ -13,12 +13,12 @@ use Rattle.hx_framing.specs.declared.lengths.framing.Framing.{Framing}
 use Rattle.hx_framing.specs.declared.lengths.framing.Framing.TheVariants as framing
 use Rattle.hx_framing.specs.Body.{ContentParseResult, Short, Bad, Whole, ContentIsWholeOrFaulty, content_result_with_more_bytes}
 use Rattle.hx_framing.specs.ChunkDecoder.{ChunkDecoder}
-use Rattle.hx_framing.specs.Chunks.{content_from_decoder, decoder_at_start}
+use Rattle.hx_framing.specs.Chunks.{chunks_decoded_from_state, decoder_at_start}
 use Rattle.hx_framing.specs.Decoding.{ChunksAreDecoded}
-use Rattle.hx_framing.specs.Contents.{content_by_framing, content_resumed, content_before_first_byte, announced_content, content_until_close, ContentAdvances, IsUnfinishedContent}
+use Rattle.hx_framing.specs.Contents.{content_by_framing, result_of_resumed_content, content_before_first_byte, announced_content, content_until_close, ContentAdvances, IsRestOfUnfinishedContent}
 use Rattle.hx_framing.specs.ChunkGrammar.{has_no_lf}
 use Rattle.hx_framing.specs.HeadEnd.{most_head_bytes}
-use Rattle.hx_framing.specs.Reading.{StreamReading, Over, Spelled, reading_of_content, ReadingIsSettled, reading_with_more_bytes}
+use Rattle.hx_framing.specs.Reading.{StreamReadResult, Over, Spelled, reading_of_content, ReadingIsSettled, reading_with_more_bytes}
 use Rattle.hx_framing.proofs.ChunkStreams.{chunks_append}
 
 -- ---- a message made of a content
@@ -30,7 +30,7 @@ body_message false make m r Short x = absurd cc
 body_message e make m r (Bad f) x = absurd cc
 body_message e make m r (Whole c rest) x = x
 
-pub body_ended : {M : Type 0} (make : Option (List ℕ) → M) (r : StreamReading M) (b : ContentParseResult) → ReadingIsSettled r
+pub body_ended : {M : Type 0} (make : Option (List ℕ) → M) (r : StreamReadResult M) (b : ContentParseResult) → ReadingIsSettled r
     → r ≡ reading_of_content false make b → r ≡ reading_of_content true make b
 body_ended make r Short due x = absurd (subst ReadingIsSettled x due)
 body_ended make r (Bad f) due x = x
@@ -102,7 +102,7 @@ body_stays max framing.UntilClose bytes due = by_test (nat_lt max (length bytes)
 
 -- ---- a content that was begun
 
-pub begun_is : (max : ℕ) (shown : Framing) (e : Bool) (bytes : List ℕ) → content_by_framing max shown e bytes ≡ content_resumed (content_before_first_byte max shown) e bytes
+pub begun_is : (max : ℕ) (shown : Framing) (e : Bool) (bytes : List ℕ) → content_by_framing max shown e bytes ≡ result_of_resumed_content (content_before_first_byte max shown) e bytes
 begun_is max framing.Nothing e bytes = refl
 begun_is max (framing.Announced n) e bytes = refl
 begun_is max framing.Chunked e bytes = refl
@@ -110,14 +110,14 @@ begun_is max framing.UntilClose e bytes = refl
 
 -- ---- what a decoder of chunks takes
 
-nothing_more : (bytes : List ℕ) (s : ChunkDecoder) (b : ContentParseResult) → content_from_decoder (bytes ++ []) s ≡ b → content_from_decoder bytes s ≡ b
-nothing_more bytes s b x = ap (λ u. content_from_decoder u s) (sym (append-nil bytes)) ∙ x
+nothing_more : (bytes : List ℕ) (s : ChunkDecoder) (b : ContentParseResult) → chunks_decoded_from_state (bytes ++ []) s ≡ b → chunks_decoded_from_state bytes s ≡ b
+nothing_more bytes s b x = ap (λ u. chunks_decoded_from_state u s) (sym (append-nil bytes)) ∙ x
 
 pub decoded_more : (d : ChunkProgress) (n : ℕ) (old : ChunkDecoder) (bytes : List ℕ) (new : ChunkDecoder) (ended : Bool) → d ≡ chunk_progress.Incomplete n
     → ChunksAreDecoded old bytes new d → ContentAdvances ended bytes (content.Chunked old) (content_progress.Incomplete n) (content.Chunked new)
 decoded_more d n old bytes new ended is h =
     let k : ChunksAreDecoded old bytes new (chunk_progress.Incomplete n) = subst (λ (d : ChunkProgress). ChunksAreDecoded old bytes new d) is h in
-    (k.0, nothing_more bytes old Short (k.1 [] ∙ ap (λ u. content_from_decoder u new) (append-nil (drop n bytes)) ∙ k.2), λ more e. k.1 more, k.4)
+    (k.0, nothing_more bytes old Short (k.1 [] ∙ ap (λ u. chunks_decoded_from_state u new) (append-nil (drop n bytes)) ∙ k.2), λ more e. k.1 more, k.4)
 
 pub decoded_whole : (d : ChunkProgress) (n : ℕ) (old : ChunkDecoder) (bytes : List ℕ) (mid new : ChunkDecoder) (c : List ℕ) (ended : Bool) → d ≡ chunk_progress.Whole n
     → c ≡ mid.content → ChunksAreDecoded old bytes mid d → ContentAdvances ended bytes (content.Chunked old) (content_progress.Whole (Some c) n) (content.Chunked new)
@@ -133,13 +133,13 @@ decoded_bad d f old bytes new ended is h =
 
 -- ---- what stays unread of a content
 
-pub open_one_line : (c : Content) (bytes : List ℕ) → IsUnfinishedContent c bytes → has_no_lf bytes ≡ true
+pub open_one_line : (c : Content) (bytes : List ℕ) → IsRestOfUnfinishedContent c bytes → has_no_lf bytes ≡ true
 open_one_line content.Nothing bytes x = ap has_no_lf x
 open_one_line (content.Announced s) bytes x = ap has_no_lf x
 open_one_line (content.Chunked chunks) bytes x = x.one_line
 open_one_line (content.UntilClose s) bytes x = ap has_no_lf x
 
-pub open_bounded : (c : Content) (bytes : List ℕ) → IsUnfinishedContent c bytes → length bytes ≤ most_head_bytes
+pub open_bounded : (c : Content) (bytes : List ℕ) → IsRestOfUnfinishedContent c bytes → length bytes ≤ most_head_bytes
 open_bounded content.Nothing bytes x = omega (arith, ap length x)
 open_bounded (content.Announced s) bytes x = omega (arith, ap length x)
 open_bounded (content.Chunked chunks) bytes x = omega (arith, x.bounded)

@@ -7,11 +7,11 @@ use Rattle.httparse.proofs.GrammarLemmas.{request_unique, response_unique}
 use Rattle.hx_framing.specs.declared.frame_fault.FrameFault.TheVariants as fault
 use Rattle.hx_framing.specs.declared.messages.Request.{Request}
 use Rattle.hx_framing.specs.declared.messages.Response.{Response}
-use Rattle.hx_framing.specs.Head.{IsHeadOfRequest, RequestHeadIsJudged, head_of_parsed_request, request_head_fault}
+use Rattle.hx_framing.specs.Head.{IsHeadOfRequest, RequestHeadIsJudged, head_of_parsed_request, fault_of_bad_request_head}
 use Rattle.hx_framing.specs.StatusHead as status
-use Rattle.hx_framing.specs.StatusHead.{IsStatusHead, status_head_of, status_head_fault}
+use Rattle.hx_framing.specs.StatusHead.{IsWholeResponseHead, status_head_of, status_head_fault}
 use Rattle.hx_framing.specs.HeadEnd.{empty_lines_length, head_length}
-use Rattle.hx_framing.specs.Reading.{StreamReading, Incomplete, Over, Faulty, truncated_or_incomplete}
+use Rattle.hx_framing.specs.Reading.{StreamReadResult, Incomplete, Over, Faulty, truncated_or_incomplete}
 use Rattle.hx_framing.specs.RequestReading.{ReadsAs}
 use Rattle.hx_framing.specs.ResponseReading as response
 use Rattle.hx_framing.specs.Version.{start_line, without_trailing_cr, is_unsupported_version, begins_with_unsupported_version, ends_with_unsupported_version}
@@ -25,32 +25,32 @@ pub long_request : (max : ℕ) (e t : Bool) (bytes : List ℕ) → head_length (
     → ReadsAs max e t bytes (Faulty fault.Head)
 long_request max e t bytes none long =
     reads_no_request max e t bytes (Faulty fault.Head) none
-    (sym (ap (λ (t : Bool). cond {A = StreamReading Request} t (Faulty fault.Head) (cond (e && (empty_lines_length bytes == length bytes)) Over (truncated_or_incomplete e))) (lt-ltb 32768 (length bytes) long)))
+    (sym (ap (λ (t : Bool). cond {A = StreamReadResult Request} t (Faulty fault.Head) (cond (e && (empty_lines_length bytes == length bytes)) Over (truncated_or_incomplete e))) (lt-ltb 32768 (length bytes) long)))
 
 pub short_request : (max : ℕ) (t : Bool) (bytes : List ℕ) → head_length (take 32768 bytes) ≡ None → length bytes ≤ 32768
     → ReadsAs max false t bytes Incomplete
 short_request max t bytes none short =
     reads_no_request max false t bytes Incomplete none
-    (sym (ap (λ (t : Bool). cond {A = StreamReading Request} t (Faulty fault.Head) Incomplete) (le-ltb 32768 (length bytes) short)))
+    (sym (ap (λ (t : Bool). cond {A = StreamReadResult Request} t (Faulty fault.Head) Incomplete) (le-ltb 32768 (length bytes) short)))
 
 pub long_response : (max : ℕ) (h e : Bool) (bytes : List ℕ) → head_length (take 32768 bytes) ≡ None → 32768 < length bytes
     → response.ReadsAs max h e bytes (Faulty fault.Head)
 long_response max h e bytes none long =
     reads_no_response max h e bytes (Faulty fault.Head) none
-    (sym (ap (λ (t : Bool). cond {A = StreamReading Response} t (Faulty fault.Head) (truncated_or_incomplete e)) (lt-ltb 32768 (length bytes) long)))
+    (sym (ap (λ (t : Bool). cond {A = StreamReadResult Response} t (Faulty fault.Head) (truncated_or_incomplete e)) (lt-ltb 32768 (length bytes) long)))
 
 pub short_response : (max : ℕ) (h : Bool) (bytes : List ℕ) → head_length (take 32768 bytes) ≡ None → length bytes ≤ 32768
     → response.ReadsAs max h false bytes Incomplete
 short_response max h bytes none short =
     reads_no_response max h false bytes Incomplete none
-    (sym (ap (λ (t : Bool). cond {A = StreamReading Response} t (Faulty fault.Head) Incomplete) (le-ltb 32768 (length bytes) short)))
+    (sym (ap (λ (t : Bool). cond {A = StreamReadResult Response} t (Faulty fault.Head) Incomplete) (le-ltb 32768 (length bytes) short)))
 
 -- ---- many lines
 
 pub few_lines : (bytes : List ℕ) (h : RequestHead) → ReadsRequest bytes h [] → length h.fields ≤ 100 → RequestHeadIsJudged bytes (Ok (head_of_parsed_request h))
 few_lines bytes h read few = (h, (read, few), refl)
 
-pub many_lines : (bytes : List ℕ) (h : RequestHead) → ReadsRequest bytes h [] → 100 < length h.fields → RequestHeadIsJudged bytes (Err (request_head_fault bytes))
+pub many_lines : (bytes : List ℕ) (h : RequestHead) → ReadsRequest bytes h [] → 100 < length h.fields → RequestHeadIsJudged bytes (Err (fault_of_bad_request_head bytes))
 many_lines bytes h read many = (
   λ k is. absurd (
       let same = ap (λ (g : RequestHead). length g.fields) (request_unique bytes k h [] [] is.0 read).0 in omega (arith, same, is.1, many)
@@ -105,7 +105,7 @@ first_eight line v behind eight is =
     let long : 8 ≤ k = omega (arith, ap length is, length-take k line, length-append v behind, eight) in
     sym (take-take 8 k line long) ∙ ap (take 8) is ∙ ap (λ n. take n (v ++ behind)) (sym eight) ∙ take-append_seam v behind
 
-response_known : (bytes : List ℕ) (h : ResponseHead) → IsStatusHead bytes h → begins_with_unsupported_version (start_line bytes) ≡ false
+response_known : (bytes : List ℕ) (h : ResponseHead) → IsWholeResponseHead bytes h → begins_with_unsupported_version (start_line bytes) ≡ false
 response_known bytes h is =
     let first = response_first bytes (status_head_of h) (h, is, refl) in
     let v : List ℕ = version_text h.minor in

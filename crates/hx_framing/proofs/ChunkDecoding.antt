@@ -7,18 +7,18 @@ use Rattle.hx_framing.specs.declared.contents.chunk_tokens.ChunkState.{ChunkStat
 use Rattle.hx_framing.specs.declared.contents.chunk_tokens.ChunkToken.TheVariants as token
 use Rattle.hx_framing.specs.declared.contents.chunk_tokens.ChunkProgress.TheVariants as chunk_progress
 use Rattle.hx_framing.specs.Body.{Whole}
-use Rattle.hx_framing.specs.ChunkDecoder.{ChunkDecoder, decoder_of_state}
-use Rattle.hx_framing.specs.Chunks.{content_from_decoder, decoder_after_bytes}
+use Rattle.hx_framing.specs.ChunkDecoder.{ChunkDecoder, chunk_decoder_with_empty_line}
+use Rattle.hx_framing.specs.Chunks.{chunks_decoded_from_state, decoder_after_bytes}
 use Rattle.hx_framing.specs.Decoding.{ChunksAreDecoded}
 use Rattle.hx_framing.specs.ChunkTokens.{ChunkTokenIsTaken}
 use Rattle.hx_framing.proofs.ChunkStreams.{chunks_behind, state_behind, state_waits}
 
 -- the bytes behind those that lead to a state
 led : (bytes more : List ℕ) (n : ℕ) (s t : ChunkDecoder) → decoder_after_bytes (take n bytes) s ≡ Some t
-    → content_from_decoder (bytes ++ more) s ≡ content_from_decoder (drop n bytes ++ more) t
+    → chunks_decoded_from_state (bytes ++ more) s ≡ chunks_decoded_from_state (drop n bytes ++ more) t
 led bytes more n s t leads =
-    ap (λ l. content_from_decoder (l ++ more) s) (sym (take-append-drop n bytes))
-    ∙ ap (λ l. content_from_decoder l s) (append_assoc (take n bytes) (drop n bytes) more)
+    ap (λ l. chunks_decoded_from_state (l ++ more) s) (sym (take-append-drop n bytes))
+    ∙ ap (λ l. chunks_decoded_from_state l s) (append_assoc (take n bytes) (drop n bytes) more)
     ∙ chunks_behind (take n bytes) (drop n bytes ++ more) s t leads
 
 -- a token more
@@ -31,12 +31,12 @@ leads_on bytes taken n s t u leads on =
 
 -- no token more
 pub decodes_more : (old : ChunkDecoder) (place : ChunkState) (was content bytes : List ℕ) (taken : ℕ)
-    → taken ≤ length bytes → decoder_after_bytes (take taken bytes) old ≡ Some (decoder_of_state place was) → ChunkTokenIsTaken place was (drop taken bytes) content token.Incomplete
-    → ChunksAreDecoded old bytes (decoder_of_state place content) (chunk_progress.Incomplete taken)
+    → taken ≤ length bytes → decoder_after_bytes (take taken bytes) old ≡ Some (chunk_decoder_with_empty_line place was) → ChunkTokenIsTaken place was (drop taken bytes) content token.Incomplete
+    → ChunksAreDecoded old bytes (chunk_decoder_with_empty_line place content) (chunk_progress.Incomplete taken)
 decodes_more old place was content bytes taken inside leads takes =
-    let t = decoder_of_state place was in
+    let t = chunk_decoder_with_empty_line place was in
     let rest = drop taken bytes in
-    subst (λ (l : List ℕ). ChunksAreDecoded old bytes (decoder_of_state place l) (chunk_progress.Incomplete taken)) (sym takes.0) (
+    subst (λ (l : List ℕ). ChunksAreDecoded old bytes (chunk_decoder_with_empty_line place l) (chunk_progress.Incomplete taken)) (sym takes.0) (
       inside,
       λ more. led bytes more taken old t leads,
       state_waits rest t (record t { line = rest }) takes.1.leads,
@@ -46,10 +46,10 @@ decodes_more old place was content bytes taken inside leads takes =
 
 -- the last token
 pub decodes_whole : (old : ChunkDecoder) (place : ChunkState) (was content bytes : List ℕ) (taken n : ℕ)
-    → taken ≤ length bytes → decoder_after_bytes (take taken bytes) old ≡ Some (decoder_of_state place was) → ChunkTokenIsTaken place was (drop taken bytes) content (token.Last n)
-    → ChunksAreDecoded old bytes (decoder_of_state place content) (chunk_progress.Whole (taken + n))
+    → taken ≤ length bytes → decoder_after_bytes (take taken bytes) old ≡ Some (chunk_decoder_with_empty_line place was) → ChunkTokenIsTaken place was (drop taken bytes) content (token.Last n)
+    → ChunksAreDecoded old bytes (chunk_decoder_with_empty_line place content) (chunk_progress.Whole (taken + n))
 decodes_whole old place was content bytes taken n inside leads takes =
-    let t = decoder_of_state place was in (
+    let t = chunk_decoder_with_empty_line place was in (
       omega (arith, takes.0, length-drop taken bytes),
       omega (arith, takes.1),
       λ more. led bytes more taken old t leads ∙ takes.2 more ∙ ap (λ l. Whole (Some content) (l ++ more)) (drop-drop n taken bytes),
@@ -57,6 +57,6 @@ decodes_whole old place was content bytes taken n inside leads takes =
 
 -- a fault
 pub decodes_fault : (old : ChunkDecoder) (place new : ChunkState) (was content bytes : List ℕ) (taken : ℕ) (f : FrameFault)
-    → decoder_after_bytes (take taken bytes) old ≡ Some (decoder_of_state place was) → ChunkTokenIsTaken place was (drop taken bytes) content (token.Faulty f)
-    → ChunksAreDecoded old bytes (decoder_of_state new content) (chunk_progress.Faulty f)
-decodes_fault old place new was content bytes taken f leads takes = λ more. led bytes more taken old (decoder_of_state place was) leads ∙ takes more
+    → decoder_after_bytes (take taken bytes) old ≡ Some (chunk_decoder_with_empty_line place was) → ChunkTokenIsTaken place was (drop taken bytes) content (token.Faulty f)
+    → ChunksAreDecoded old bytes (chunk_decoder_with_empty_line new content) (chunk_progress.Faulty f)
+decodes_fault old place new was content bytes taken f leads takes = λ more. led bytes more taken old (chunk_decoder_with_empty_line place was) leads ∙ takes more

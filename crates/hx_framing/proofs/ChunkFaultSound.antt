@@ -6,10 +6,10 @@ use Rattle.hx_framing.specs.declared.frame_fault.FrameFault.{FrameFault}
 use Rattle.hx_framing.specs.declared.frame_fault.FrameFault.TheVariants as fault
 use Rattle.hx_framing.specs.declared.contents.chunk_tokens.ChunkPhase.TheVariants as phase
 use Rattle.hx_framing.specs.Body.{Bad}
-use Rattle.hx_framing.specs.Chunks.{most_trailer_bytes, Go, Stop, Fail, content_after_step, content_from_decoder, chunked_content, step_after_size_line, step_after_trailer_line}
-use Rattle.hx_framing.specs.SizeLine.{most_chunk_size_line_bytes, is_chunk_size_text, chunk_size_of, chunk_size_of_line, ends_in_cr, without_last_byte, number_at_most}
+use Rattle.hx_framing.specs.Chunks.{most_trailer_bytes, Go, Stop, Fail, content_after_step, chunks_decoded_from_state, decoded_chunked_content, step_after_size_line, step_after_trailer_line}
+use Rattle.hx_framing.specs.SizeLine.{most_chunk_size_line_bytes, is_chunk_size_text, chunk_size_of, chunk_size_of_line, ends_in_cr, without_last_byte, number_if_at_most}
 use Rattle.hx_framing.specs.ChunkGrammar.{has_no_lf, ChunkSizeLineSpellsSize, Chunk, IsChunk, chunks_text, data_of_chunks, IsTrailerLine}
-use Rattle.hx_framing.specs.ChunkFaults.{cannot_become_crlf, IsSizeLineWithCr, LineEndsInCr, trailer_lines_text, trailer_lines_length, ChunkDeviation, NoSize, NoEnd, Large, BadEnd, BadTrailer, LongTrailers, IsBegunTrailerSection, BytesStartWithChunkDeviation, DeviatesFromChunks}
+use Rattle.hx_framing.specs.ChunkFaults.{cannot_become_crlf, IsSizeLineWithCr, LineEndsInCr, trailer_lines_text_with_rest, trailer_lines_length, ChunkDeviation, NoSize, NoEnd, Large, BadEnd, BadTrailer, LongTrailers, IsBegunTrailerSection, BytesStartWithChunkDeviation, DeviatesFromChunks}
 use Rattle.hx_framing.proofs.ChunkSteps.{in_phase, cr_last, cr_off}
 use Rattle.hx_framing.proofs.ChunkSound.{no_lf_push, no_lf_take, cr_line, size_says, with_lf}
 
@@ -54,15 +54,15 @@ record AtTrailers (used : ℕ) (l bytes : List ℕ) (f : FrameFault) : Type 0 wh
   rest : List ℕ
   each : AllByRecursion IsTrailerLine lines
   one_line : has_no_lf line ≡ true
-  parts : l ++ bytes ≡ trailer_lines_text lines (line ++ rest)
+  parts : l ++ bytes ≡ trailer_lines_text_with_rest lines (line ++ rest)
   wrong : IsWrong (used + trailer_lines_length lines) line rest
 
 record Refused (bytes : List ℕ) (f : FrameFault) : Type 0 where
-  size : (left : ℕ) (sofar l : List ℕ) → has_no_lf l ≡ true → content_from_decoder bytes (in_phase phase.Size 0 left 0 sofar l) ≡ Bad f → AtSize left l bytes f
-  dat : (need left : ℕ) (sofar : List ℕ) → 0 < need → content_from_decoder bytes (in_phase phase.Data need left 0 sofar []) ≡ Bad f → AtData need left bytes f
-  ends : (left : ℕ) (sofar : List ℕ) → content_from_decoder bytes (in_phase phase.DataEnd 0 left 0 sofar []) ≡ Bad f → AtEnd left bytes f
-  ends_cr : (left : ℕ) (sofar : List ℕ) → content_from_decoder bytes (in_phase phase.DataEnd 0 left 0 sofar (13 ∷ [])) ≡ Bad f → AtEnd left (13 ∷ bytes) f
-  trailers : (left used : ℕ) (sofar l : List ℕ) → has_no_lf l ≡ true → content_from_decoder bytes (in_phase phase.Trailers 0 left used sofar l) ≡ Bad f → AtTrailers used l bytes f
+  size : (left : ℕ) (sofar l : List ℕ) → has_no_lf l ≡ true → chunks_decoded_from_state bytes (in_phase phase.Size 0 left 0 sofar l) ≡ Bad f → AtSize left l bytes f
+  dat : (need left : ℕ) (sofar : List ℕ) → 0 < need → chunks_decoded_from_state bytes (in_phase phase.Data need left 0 sofar []) ≡ Bad f → AtData need left bytes f
+  ends : (left : ℕ) (sofar : List ℕ) → chunks_decoded_from_state bytes (in_phase phase.DataEnd 0 left 0 sofar []) ≡ Bad f → AtEnd left bytes f
+  ends_cr : (left : ℕ) (sofar : List ℕ) → chunks_decoded_from_state bytes (in_phase phase.DataEnd 0 left 0 sofar (13 ∷ [])) ≡ Bad f → AtEnd left (13 ∷ bytes) f
+  trailers : (left used : ℕ) (sofar l : List ℕ) → has_no_lf l ≡ true → chunks_decoded_from_state bytes (in_phase phase.Trailers 0 left used sofar l) ≡ Bad f → AtTrailers used l bytes f
 
 same_fault : (f g : FrameFault) → Bad f ≡ Bad g → g ≡ f
 same_fault f g e = cc
@@ -80,10 +80,10 @@ behind_chunk left n sum bytes LongTrailers f fits breaks = breaks
 -- ---- a byte of each phase
 
 on_data : (b : ℕ) (bytes : List ℕ) (f : FrameFault) → Refused bytes f → (need left : ℕ) (sofar : List ℕ) → 0 < need
-    → content_from_decoder (b ∷ bytes) (in_phase phase.Data need left 0 sofar []) ≡ Bad f → AtData need left (b ∷ bytes) f
+    → chunks_decoded_from_state (b ∷ bytes) (in_phase phase.Data need left 0 sofar []) ≡ Bad f → AtData need left (b ∷ bytes) f
 on_data b bytes f later need left sofar some h = by_test (nat_lt 1 need) refl h
   where
-    by_test : (t : Bool) → nat_lt 1 need ≡ t → content_from_decoder bytes (in_phase (cond t phase.Data phase.DataEnd) (need - 1) left 0 (sofar ++ b ∷ []) []) ≡ Bad f
+    by_test : (t : Bool) → nat_lt 1 need ≡ t → chunks_decoded_from_state bytes (in_phase (cond t phase.Data phase.DataEnd) (need - 1) left 0 (sofar ++ b ∷ []) []) ≡ Bad f
         → AtData need left (b ∷ bytes) f
     by_test true p h =
         let more : 1 < need = ltb-true _ _ p in
@@ -92,7 +92,7 @@ on_data b bytes f later need left sofar some h = by_test (nat_lt 1 need) refl h
     by_test false p h =
         let few : need ≤ 1 = ltb-false _ _ p in
         let none : need - 1 ≡ 0 = omega arith in
-        let a = later.ends left (sofar ++ b ∷ []) (subst (λ (n : ℕ). content_from_decoder bytes (in_phase phase.DataEnd n left 0 (sofar ++ b ∷ []) []) ≡ Bad f) none h) in
+        let a = later.ends left (sofar ++ b ∷ []) (subst (λ (n : ℕ). chunks_decoded_from_state bytes (in_phase phase.DataEnd n left 0 (sofar ++ b ∷ []) []) ≡ Bad f) none h) in
         record { d = b ∷ []; rest = bytes; long = omega arith; parts = refl; ends = a }
 
 no_first : (b : ℕ) (bytes : List ℕ) → (b == 13) ≡ false → cannot_become_crlf (b ∷ bytes) ≡ true
@@ -100,22 +100,22 @@ no_first b [] p = ap not p
 no_first b (c ∷ bytes) p = ap (λ t. not (t && (c == 10))) p
 
 on_end : (b : ℕ) (bytes : List ℕ) (f : FrameFault) → Refused bytes f → (left : ℕ) (sofar : List ℕ)
-    → content_from_decoder (b ∷ bytes) (in_phase phase.DataEnd 0 left 0 sofar []) ≡ Bad f → AtEnd left (b ∷ bytes) f
+    → chunks_decoded_from_state (b ∷ bytes) (in_phase phase.DataEnd 0 left 0 sofar []) ≡ Bad f → AtEnd left (b ∷ bytes) f
 on_end b bytes f later left sofar h = by_test (b == 13) refl h
   where
-    by_test : (t : Bool) → (b == 13) ≡ t → content_after_step (cond t (Go (in_phase phase.DataEnd 0 left 0 sofar (b ∷ []))) (Fail fault.Chunk)) (content_from_decoder bytes) bytes ≡ Bad f
+    by_test : (t : Bool) → (b == 13) ≡ t → content_after_step (cond t (Go (in_phase phase.DataEnd 0 left 0 sofar (b ∷ []))) (Fail fault.Chunk)) (chunks_decoded_from_state bytes) bytes ≡ Bad f
         → AtEnd left (b ∷ bytes) f
     by_test true p h =
         let is_cr : b ≡ 13 = eqb-true _ _ p in
-        let a = later.ends_cr left sofar (subst (λ (x : ℕ). content_from_decoder bytes (in_phase phase.DataEnd 0 left 0 sofar (x ∷ [])) ≡ Bad f) is_cr h) in
+        let a = later.ends_cr left sofar (subst (λ (x : ℕ). chunks_decoded_from_state bytes (in_phase phase.DataEnd 0 left 0 sofar (x ∷ [])) ≡ Bad f) is_cr h) in
         subst (λ (x : ℕ). AtEnd left (x ∷ bytes) f) (sym is_cr) a
     by_test false p h = inl (same_fault fault.Chunk f h, no_first b bytes p)
 
 on_end_cr : (b : ℕ) (bytes : List ℕ) (f : FrameFault) → Refused bytes f → (left : ℕ) (sofar : List ℕ)
-    → content_from_decoder (b ∷ bytes) (in_phase phase.DataEnd 0 left 0 sofar (13 ∷ [])) ≡ Bad f → AtEnd left (13 ∷ b ∷ bytes) f
+    → chunks_decoded_from_state (b ∷ bytes) (in_phase phase.DataEnd 0 left 0 sofar (13 ∷ [])) ≡ Bad f → AtEnd left (13 ∷ b ∷ bytes) f
 on_end_cr b bytes f later left sofar h = by_test (b == 10) refl h
   where
-    by_test : (t : Bool) → (b == 10) ≡ t → content_after_step (cond t (Go (in_phase phase.Size 0 left 0 sofar [])) (Fail fault.Chunk)) (content_from_decoder bytes) bytes ≡ Bad f
+    by_test : (t : Bool) → (b == 10) ≡ t → content_after_step (cond t (Go (in_phase phase.Size 0 left 0 sofar [])) (Fail fault.Chunk)) (chunks_decoded_from_state bytes) bytes ≡ Bad f
         → AtEnd left (13 ∷ b ∷ bytes) f
     by_test true p h = inr (record { more = bytes; parts = ap (λ x. 13 ∷ x ∷ bytes) (eqb-true _ _ p); next = later.size left sofar [] refl h })
     by_test false p h = inl (same_fault fault.Chunk f h, ap not p)
@@ -142,7 +142,7 @@ size_refused l left f h = by_test (ends_in_cr l) refl (is_chunk_size_text (witho
     same_error g e = cc
 
     by_test : (e : Bool) → ends_in_cr l ≡ e → (s : Bool) → is_chunk_size_text (without_last_byte l) ≡ s
-        → cond (e && s) (ok_or (number_at_most left (chunk_size_of (without_last_byte l))) fault.TooLarge) (Err fault.Chunk) ≡ Err f → IsRefusedSize l left f
+        → cond (e && s) (ok_or (number_if_at_most left (chunk_size_of (without_last_byte l))) fault.TooLarge) (Err fault.Chunk) ≡ Err f → IsRefusedSize l left f
     by_test true p true q h =
         let large = by_size (chunk_size_of (without_last_byte l)) (nat_le (chunk_size_of (without_last_byte l)) left) refl h in
         record { is = inr (large.0, p, q, large.1) }
@@ -150,7 +150,7 @@ size_refused l left f h = by_test (ends_in_cr l) refl (is_chunk_size_text (witho
     by_test false p s q h = record { is = inl (same_error fault.Chunk h, no_line false s p q refl) }
 
 on_size : (b : ℕ) (bytes : List ℕ) (f : FrameFault) → Refused bytes f → (left : ℕ) (sofar l : List ℕ) → has_no_lf l ≡ true
-    → content_from_decoder (b ∷ bytes) (in_phase phase.Size 0 left 0 sofar l) ≡ Bad f → AtSize left l (b ∷ bytes) f
+    → chunks_decoded_from_state (b ∷ bytes) (in_phase phase.Size 0 left 0 sofar l) ≡ Bad f → AtSize left l (b ∷ bytes) f
 on_size b bytes f later left sofar l none h = by_test (b == 10) refl (nat_lt (length l) most_chunk_size_line_bytes) refl (chunk_size_of_line l left) refl h
   where
     -- the bytes themselves deviate
@@ -208,7 +208,7 @@ on_size b bytes f later left sofar l none h = by_test (b == 10) refl (nat_lt (le
           each = a.each;
           one_line = a.one_line;
           parts = with_lf l bytes b ends is_lf
-              ∙ ap (λ bs. without_last_byte l ++ 13 ∷ 10 ∷ bs) (a.parts ∙ ap (λ r. trailer_lines_text a.lines (a.line ++ r)) same);
+              ∙ ap (λ bs. without_last_byte l ++ 13 ∷ 10 ∷ bs) (a.parts ∙ ap (λ r. trailer_lines_text_with_rest a.lines (a.line ++ r)) same);
         }
 
         by_wrong : IsWrong (0 + trailer_lines_length a.lines) a.line a.rest → AtSize left l (b ∷ bytes) f
@@ -216,7 +216,7 @@ on_size b bytes f later left sofar l none h = by_test (b == 10) refl (nat_lt (le
         by_wrong (inr x) = here LongTrailers (a.is, (a.lines, a.line, x.0, x.1, begins (x.0 ∷ x.1) x.2, omega (arith, x.3)))
 
     by_number : (n : ℕ) → chunk_size_of_line l left ≡ Ok n → b ≡ 10 → (z : Bool) → (n == 0) ≡ z
-        → content_after_step (cond z (Go (in_phase phase.Trailers 0 left 0 sofar [])) (Go (in_phase phase.Data n (left - n) 0 sofar []))) (content_from_decoder bytes) bytes ≡ Bad f
+        → content_after_step (cond z (Go (in_phase phase.Trailers 0 left 0 sofar [])) (Go (in_phase phase.Data n (left - n) 0 sofar []))) (chunks_decoded_from_state bytes) bytes ≡ Bad f
         → AtSize left l (b ∷ bytes) f
     by_number n says is_lf true z h =
         let said = size_says l left n says in
@@ -230,7 +230,7 @@ on_size b bytes f later left sofar l none h = by_test (b == 10) refl (nat_lt (le
         by_end n is_lf said.0 said.1 said.2 said.3 some a.d a.rest a.long a.parts a.ends
 
     by_test : (t : Bool) → (b == 10) ≡ t → (u : Bool) → nat_lt (length l) most_chunk_size_line_bytes ≡ u → (r : Result ℕ FrameFault) → chunk_size_of_line l left ≡ r
-        → content_after_step (cond t (step_after_size_line (in_phase phase.Size 0 left 0 sofar l) r) (cond u (Go (in_phase phase.Size 0 left 0 sofar (l ++ b ∷ []))) (Fail fault.Chunk))) (content_from_decoder bytes) bytes ≡ Bad f
+        → content_after_step (cond t (step_after_size_line (in_phase phase.Size 0 left 0 sofar l) r) (cond u (Go (in_phase phase.Size 0 left 0 sofar (l ++ b ∷ []))) (Fail fault.Chunk))) (chunks_decoded_from_state bytes) bytes ≡ Bad f
         → AtSize left l (b ∷ bytes) f
     by_test true p u q (Ok n) says h = by_number n says (eqb-true _ _ p) (n == 0) refl h
     by_test true p u q (Err g) says h = by_refused (eqb-true _ _ p) g (same_fault g f h) (size_refused l left g says)
@@ -242,11 +242,11 @@ on_size b bytes f later left sofar l none h = by_test (b == 10) refl (nat_lt (le
         here NoEnd (same_fault fault.Chunk f h, (l ++ b ∷ [], bytes, sym (append_assoc l (b ∷ []) bytes), no_lf_push l b none p, omega (arith, long, length-append l (b ∷ []))))
 
 on_trailers : (b : ℕ) (bytes : List ℕ) (f : FrameFault) → Refused bytes f → (left used : ℕ) (sofar l : List ℕ) → has_no_lf l ≡ true
-    → content_from_decoder (b ∷ bytes) (in_phase phase.Trailers 0 left used sofar l) ≡ Bad f → AtTrailers used l (b ∷ bytes) f
+    → chunks_decoded_from_state (b ∷ bytes) (in_phase phase.Trailers 0 left used sofar l) ≡ Bad f → AtTrailers used l (b ∷ bytes) f
 on_trailers b bytes f later left used sofar l none h = by_room (nat_lt (used + length l) most_trailer_bytes) refl h
   where
     by_length : b ≡ 10 → ends_in_cr l ≡ true → (z : Bool) → (length l == 1) ≡ z
-        → content_after_step (cond z (Stop sofar) (Go (in_phase phase.Trailers 0 left (used + length l + 1) sofar []))) (content_from_decoder bytes) bytes ≡ Bad f
+        → content_after_step (cond z (Stop sofar) (Go (in_phase phase.Trailers 0 left (used + length l + 1) sofar []))) (chunks_decoded_from_state bytes) bytes ≡ Bad f
         → AtTrailers used l (b ∷ bytes) f
     by_length is_lf e true z h = absurd cc
     by_length is_lf e false z h =
@@ -271,7 +271,7 @@ on_trailers b bytes f later left used sofar l none h = by_room (nat_lt (used + l
     here is line rest one_line parts wrong = record { is = is; lines = []; line = line; rest = rest; each = tt; one_line = one_line; parts = parts; wrong = wrong }
 
     by_end : b ≡ 10 → (e : Bool) → ends_in_cr l ≡ e
-        → content_after_step (cond e (cond (length l == 1) (Stop sofar) (Go (in_phase phase.Trailers 0 left (used + length l + 1) sofar []))) (Fail fault.Chunk)) (content_from_decoder bytes) bytes ≡ Bad f
+        → content_after_step (cond e (cond (length l == 1) (Stop sofar) (Go (in_phase phase.Trailers 0 left (used + length l + 1) sofar []))) (Fail fault.Chunk)) (chunks_decoded_from_state bytes) bytes ≡ Bad f
         → AtTrailers used l (b ∷ bytes) f
     by_end is_lf true e h = by_length is_lf e (length l == 1) refl h
     by_end is_lf false e h =
@@ -279,7 +279,7 @@ on_trailers b bytes f later left used sofar l none h = by_room (nat_lt (used + l
         (inl (bytes, ap (λ c. c ∷ bytes) is_lf, λ line. absurd (let both : true ≡ false = sym (ap ends_in_cr line.ends ∙ cr_last line.text) ∙ e in cc)))
 
     by_lf : (t : Bool) → (b == 10) ≡ t
-        → content_after_step (cond t (step_after_trailer_line (in_phase phase.Trailers 0 left used sofar l)) (Go (in_phase phase.Trailers 0 left used sofar (l ++ b ∷ [])))) (content_from_decoder bytes) bytes ≡ Bad f
+        → content_after_step (cond t (step_after_trailer_line (in_phase phase.Trailers 0 left used sofar l)) (Go (in_phase phase.Trailers 0 left used sofar (l ++ b ∷ [])))) (chunks_decoded_from_state bytes) bytes ≡ Bad f
         → AtTrailers used l (b ∷ bytes) f
     by_lf true p h = by_end (eqb-true _ _ p) (ends_in_cr l) refl h
     by_lf false p h =
@@ -287,7 +287,7 @@ on_trailers b bytes f later left used sofar l none h = by_room (nat_lt (used + l
         record { is = a.is; lines = a.lines; line = a.line; rest = a.rest; each = a.each; one_line = a.one_line; parts = sym (append_assoc l (b ∷ []) bytes) ∙ a.parts; wrong = a.wrong }
 
     by_room : (r : Bool) → nat_lt (used + length l) most_trailer_bytes ≡ r
-        → content_after_step (cond r (cond (b == 10) (step_after_trailer_line (in_phase phase.Trailers 0 left used sofar l)) (Go (in_phase phase.Trailers 0 left used sofar (l ++ b ∷ [])))) (Fail fault.Chunk)) (content_from_decoder bytes) bytes ≡ Bad f
+        → content_after_step (cond r (cond (b == 10) (step_after_trailer_line (in_phase phase.Trailers 0 left used sofar l)) (Go (in_phase phase.Trailers 0 left used sofar (l ++ b ∷ [])))) (Fail fault.Chunk)) (chunks_decoded_from_state bytes) bytes ≡ Bad f
         → AtTrailers used l (b ∷ bytes) f
     by_room true p h = by_lf (b == 10) refl h
     by_room false p h =
@@ -301,7 +301,7 @@ refused (b ∷ bytes) f =
     record { size = on_size b bytes f later; dat = on_data b bytes f later; ends = on_end b bytes f later; ends_cr = on_end_cr b bytes f later; trailers = on_trailers b bytes f later }
 
 -- what is refused deviates
-pub refused_breaks : (max_body : ℕ) (bytes : List ℕ) (f : FrameFault) → chunked_content max_body bytes ≡ Bad f → DeviatesFromChunks max_body bytes f
+pub refused_breaks : (max_body : ℕ) (bytes : List ℕ) (f : FrameFault) → decoded_chunked_content max_body bytes ≡ Bad f → DeviatesFromChunks max_body bytes f
 refused_breaks max_body bytes f h =
     let a = (refused bytes f).size max_body [] [] refl h in
     record { chunks = a.chunks; tail = a.tail; parts = a.parts; whole = a.whole; fits = a.fits; kind = a.kind; breaks = a.breaks }

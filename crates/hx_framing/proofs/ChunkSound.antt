@@ -7,16 +7,16 @@ use Rattle.hx_framing.specs.declared.frame_fault.FrameFault.{FrameFault}
 use Rattle.hx_framing.specs.declared.frame_fault.FrameFault.TheVariants as fault
 use Rattle.hx_framing.specs.declared.contents.chunk_tokens.ChunkPhase.TheVariants as phase
 use Rattle.hx_framing.specs.Body.{Whole}
-use Rattle.hx_framing.specs.Chunks.{most_trailer_bytes, Go, Stop, Fail, content_after_step, content_from_decoder, chunked_content, step_after_size_line, step_after_trailer_line}
-use Rattle.hx_framing.specs.SizeLine.{most_chunk_size_line_bytes, is_chunk_size_text, chunk_size_of, chunk_size_of_line, ends_in_cr, without_last_byte, number_at_most}
-use Rattle.hx_framing.specs.ChunkGrammar.{has_no_lf, data_of_chunks, IsTrailerLine, trailer_section_text, trailer_section_length, ChunkedBody, IsChunkedBody, chunked_body_text}
+use Rattle.hx_framing.specs.Chunks.{most_trailer_bytes, Go, Stop, Fail, content_after_step, chunks_decoded_from_state, decoded_chunked_content, step_after_size_line, step_after_trailer_line}
+use Rattle.hx_framing.specs.SizeLine.{most_chunk_size_line_bytes, is_chunk_size_text, chunk_size_of, chunk_size_of_line, ends_in_cr, without_last_byte, number_if_at_most}
+use Rattle.hx_framing.specs.ChunkGrammar.{has_no_lf, data_of_chunks, IsTrailerLine, trailer_section_text, trailer_section_length, ChunkedBody, IsChunkedBody, chunked_body_text_with_rest}
 use Rattle.hx_framing.proofs.ChunkSteps.{and_parts, in_phase}
 
 -- a line l that begins chunks, and what follows it
 record Ahead (left : ℕ) (l bytes sofar c rest : List ℕ) : Type 0 where
   t : ChunkedBody
   is : IsChunkedBody left t
-  reads : l ++ bytes ≡ chunked_body_text t rest
+  reads : l ++ bytes ≡ chunked_body_text_with_rest t rest
   gives : c ≡ sofar ++ data_of_chunks t.chunks
 
 record AheadData (need left : ℕ) (bytes sofar c rest : List ℕ) : Type 0 where
@@ -24,13 +24,13 @@ record AheadData (need left : ℕ) (bytes sofar c rest : List ℕ) : Type 0 wher
   long : length d ≡ need
   t : ChunkedBody
   is : IsChunkedBody left t
-  reads : bytes ≡ d ++ 13 ∷ 10 ∷ chunked_body_text t rest
+  reads : bytes ≡ d ++ 13 ∷ 10 ∷ chunked_body_text_with_rest t rest
   gives : c ≡ sofar ++ (d ++ data_of_chunks t.chunks)
 
 record AheadEnd (left : ℕ) (l bytes sofar c rest : List ℕ) : Type 0 where
   t : ChunkedBody
   is : IsChunkedBody left t
-  reads : l ++ bytes ≡ 13 ∷ 10 ∷ chunked_body_text t rest
+  reads : l ++ bytes ≡ 13 ∷ 10 ∷ chunked_body_text_with_rest t rest
   gives : c ≡ sofar ++ data_of_chunks t.chunks
 
 record AheadTrailers (used : ℕ) (l bytes sofar c rest : List ℕ) : Type 0 where
@@ -41,11 +41,11 @@ record AheadTrailers (used : ℕ) (l bytes sofar c rest : List ℕ) : Type 0 whe
   gives : c ≡ sofar
 
 record Sound (bytes c rest : List ℕ) : Type 0 where
-  size : (left : ℕ) (sofar l : List ℕ) → has_no_lf l ≡ true → content_from_decoder bytes (in_phase phase.Size 0 left 0 sofar l) ≡ Whole (Some c) rest → Ahead left l bytes sofar c rest
-  dat : (need left : ℕ) (sofar : List ℕ) → 0 < need → content_from_decoder bytes (in_phase phase.Data need left 0 sofar []) ≡ Whole (Some c) rest → AheadData need left bytes sofar c rest
-  ends : (left : ℕ) (sofar : List ℕ) → content_from_decoder bytes (in_phase phase.DataEnd 0 left 0 sofar []) ≡ Whole (Some c) rest → AheadEnd left [] bytes sofar c rest
-  ends_cr : (left : ℕ) (sofar : List ℕ) → content_from_decoder bytes (in_phase phase.DataEnd 0 left 0 sofar (13 ∷ [])) ≡ Whole (Some c) rest → AheadEnd left (13 ∷ []) bytes sofar c rest
-  trailers : (left used : ℕ) (sofar l : List ℕ) → has_no_lf l ≡ true → content_from_decoder bytes (in_phase phase.Trailers 0 left used sofar l) ≡ Whole (Some c) rest → AheadTrailers used l bytes sofar c rest
+  size : (left : ℕ) (sofar l : List ℕ) → has_no_lf l ≡ true → chunks_decoded_from_state bytes (in_phase phase.Size 0 left 0 sofar l) ≡ Whole (Some c) rest → Ahead left l bytes sofar c rest
+  dat : (need left : ℕ) (sofar : List ℕ) → 0 < need → chunks_decoded_from_state bytes (in_phase phase.Data need left 0 sofar []) ≡ Whole (Some c) rest → AheadData need left bytes sofar c rest
+  ends : (left : ℕ) (sofar : List ℕ) → chunks_decoded_from_state bytes (in_phase phase.DataEnd 0 left 0 sofar []) ≡ Whole (Some c) rest → AheadEnd left [] bytes sofar c rest
+  ends_cr : (left : ℕ) (sofar : List ℕ) → chunks_decoded_from_state bytes (in_phase phase.DataEnd 0 left 0 sofar (13 ∷ [])) ≡ Whole (Some c) rest → AheadEnd left (13 ∷ []) bytes sofar c rest
+  trailers : (left used : ℕ) (sofar l : List ℕ) → has_no_lf l ≡ true → chunks_decoded_from_state bytes (in_phase phase.Trailers 0 left used sofar l) ≡ Whole (Some c) rest → AheadTrailers used l bytes sofar c rest
 
 -- ---- tools
 
@@ -81,7 +81,7 @@ size_says l left n h = by_test (ends_in_cr l) refl (is_chunk_size_text (without_
     by_size k false p h = absurd cc
 
     by_test : (e : Bool) → ends_in_cr l ≡ e → (s : Bool) → is_chunk_size_text (without_last_byte l) ≡ s
-        → cond (e && s) (ok_or (number_at_most left (chunk_size_of (without_last_byte l))) fault.TooLarge) (Err fault.Chunk) ≡ Ok n
+        → cond (e && s) (ok_or (number_if_at_most left (chunk_size_of (without_last_byte l))) fault.TooLarge) (Err fault.Chunk) ≡ Ok n
         → (ends_in_cr l ≡ true) × (is_chunk_size_text (without_last_byte l) ≡ true) × (n ≡ chunk_size_of (without_last_byte l)) × (n ≤ left)
     by_test true p true q h = let r = by_size (chunk_size_of (without_last_byte l)) (nat_le (chunk_size_of (without_last_byte l)) left) refl h in (p, q, r.0, r.1)
     by_test true p false q h = absurd cc
@@ -90,10 +90,10 @@ size_says l left n h = by_test (ends_in_cr l) refl (is_chunk_size_text (without_
 -- ---- a byte of each phase
 
 on_data : (b : ℕ) (bytes c rest : List ℕ) → Sound bytes c rest → (need left : ℕ) (sofar : List ℕ) → 0 < need
-    → content_from_decoder (b ∷ bytes) (in_phase phase.Data need left 0 sofar []) ≡ Whole (Some c) rest → AheadData need left (b ∷ bytes) sofar c rest
+    → chunks_decoded_from_state (b ∷ bytes) (in_phase phase.Data need left 0 sofar []) ≡ Whole (Some c) rest → AheadData need left (b ∷ bytes) sofar c rest
 on_data b bytes c rest later need left sofar some h = by_test (nat_lt 1 need) refl h
   where
-    by_test : (t : Bool) → nat_lt 1 need ≡ t → content_from_decoder bytes (in_phase (cond t phase.Data phase.DataEnd) (need - 1) left 0 (sofar ++ b ∷ []) []) ≡ Whole (Some c) rest
+    by_test : (t : Bool) → nat_lt 1 need ≡ t → chunks_decoded_from_state bytes (in_phase (cond t phase.Data phase.DataEnd) (need - 1) left 0 (sofar ++ b ∷ []) []) ≡ Whole (Some c) rest
         → AheadData need left (b ∷ bytes) sofar c rest
     by_test true p h =
         let more : 1 < need = ltb-true _ _ p in
@@ -102,26 +102,26 @@ on_data b bytes c rest later need left sofar some h = by_test (nat_lt 1 need) re
     by_test false p h =
         let few : need ≤ 1 = ltb-false _ _ p in
         let none : need - 1 ≡ 0 = omega arith in
-        let a = later.ends left (sofar ++ b ∷ []) (subst (λ (n : ℕ). content_from_decoder bytes (in_phase phase.DataEnd n left 0 (sofar ++ b ∷ []) []) ≡ Whole (Some c) rest) none h) in
+        let a = later.ends left (sofar ++ b ∷ []) (subst (λ (n : ℕ). chunks_decoded_from_state bytes (in_phase phase.DataEnd n left 0 (sofar ++ b ∷ []) []) ≡ Whole (Some c) rest) none h) in
         record { d = b ∷ []; long = omega arith; t = a.t; is = a.is; reads = ap (λ bs. b ∷ bs) a.reads; gives = a.gives ∙ append_assoc sofar (b ∷ []) (data_of_chunks a.t.chunks) }
 
 on_end : (b : ℕ) (bytes c rest : List ℕ) → Sound bytes c rest → (left : ℕ) (sofar : List ℕ)
-    → content_from_decoder (b ∷ bytes) (in_phase phase.DataEnd 0 left 0 sofar []) ≡ Whole (Some c) rest → AheadEnd left [] (b ∷ bytes) sofar c rest
+    → chunks_decoded_from_state (b ∷ bytes) (in_phase phase.DataEnd 0 left 0 sofar []) ≡ Whole (Some c) rest → AheadEnd left [] (b ∷ bytes) sofar c rest
 on_end b bytes c rest later left sofar h = by_test (b == 13) refl h
   where
-    by_test : (t : Bool) → (b == 13) ≡ t → content_after_step (cond t (Go (in_phase phase.DataEnd 0 left 0 sofar (b ∷ []))) (Fail fault.Chunk)) (content_from_decoder bytes) bytes ≡ Whole (Some c) rest
+    by_test : (t : Bool) → (b == 13) ≡ t → content_after_step (cond t (Go (in_phase phase.DataEnd 0 left 0 sofar (b ∷ []))) (Fail fault.Chunk)) (chunks_decoded_from_state bytes) bytes ≡ Whole (Some c) rest
         → AheadEnd left [] (b ∷ bytes) sofar c rest
     by_test true p h =
         let is_cr : b ≡ 13 = eqb-true _ _ p in
-        let a = later.ends_cr left sofar (subst (λ (x : ℕ). content_from_decoder bytes (in_phase phase.DataEnd 0 left 0 sofar (x ∷ [])) ≡ Whole (Some c) rest) is_cr h) in
+        let a = later.ends_cr left sofar (subst (λ (x : ℕ). chunks_decoded_from_state bytes (in_phase phase.DataEnd 0 left 0 sofar (x ∷ [])) ≡ Whole (Some c) rest) is_cr h) in
         record { t = a.t; is = a.is; reads = ap (λ x. x ∷ bytes) is_cr ∙ a.reads; gives = a.gives }
     by_test false p h = absurd cc
 
 on_end_cr : (b : ℕ) (bytes c rest : List ℕ) → Sound bytes c rest → (left : ℕ) (sofar : List ℕ)
-    → content_from_decoder (b ∷ bytes) (in_phase phase.DataEnd 0 left 0 sofar (13 ∷ [])) ≡ Whole (Some c) rest → AheadEnd left (13 ∷ []) (b ∷ bytes) sofar c rest
+    → chunks_decoded_from_state (b ∷ bytes) (in_phase phase.DataEnd 0 left 0 sofar (13 ∷ [])) ≡ Whole (Some c) rest → AheadEnd left (13 ∷ []) (b ∷ bytes) sofar c rest
 on_end_cr b bytes c rest later left sofar h = by_test (b == 10) refl h
   where
-    by_test : (t : Bool) → (b == 10) ≡ t → content_after_step (cond t (Go (in_phase phase.Size 0 left 0 sofar [])) (Fail fault.Chunk)) (content_from_decoder bytes) bytes ≡ Whole (Some c) rest
+    by_test : (t : Bool) → (b == 10) ≡ t → content_after_step (cond t (Go (in_phase phase.Size 0 left 0 sofar [])) (Fail fault.Chunk)) (chunks_decoded_from_state bytes) bytes ≡ Whole (Some c) rest
         → AheadEnd left (13 ∷ []) (b ∷ bytes) sofar c rest
     by_test true p h =
         let is_lf : b ≡ 10 = eqb-true _ _ p in
@@ -134,11 +134,11 @@ pub with_lf : (l bytes : List ℕ) (b : ℕ) → ends_in_cr l ≡ true → b ≡
 with_lf l bytes b e is_lf = ap (λ m. m ++ b ∷ bytes) (cr_line l e) ∙ append_assoc (without_last_byte l) (13 ∷ []) (b ∷ bytes) ∙ ap (λ x. without_last_byte l ++ 13 ∷ x ∷ bytes) is_lf
 
 on_size : (b : ℕ) (bytes c rest : List ℕ) → Sound bytes c rest → (left : ℕ) (sofar l : List ℕ) → has_no_lf l ≡ true
-    → content_from_decoder (b ∷ bytes) (in_phase phase.Size 0 left 0 sofar l) ≡ Whole (Some c) rest → Ahead left l (b ∷ bytes) sofar c rest
+    → chunks_decoded_from_state (b ∷ bytes) (in_phase phase.Size 0 left 0 sofar l) ≡ Whole (Some c) rest → Ahead left l (b ∷ bytes) sofar c rest
 on_size b bytes c rest later left sofar l none h = by_test (b == 10) refl (nat_lt (length l) most_chunk_size_line_bytes) (chunk_size_of_line l left) refl h
   where
     by_number : (n : ℕ) → chunk_size_of_line l left ≡ Ok n → b ≡ 10 → (z : Bool) → (n == 0) ≡ z
-        → content_after_step (cond z (Go (in_phase phase.Trailers 0 left 0 sofar [])) (Go (in_phase phase.Data n (left - n) 0 sofar []))) (content_from_decoder bytes) bytes ≡ Whole (Some c) rest
+        → content_after_step (cond z (Go (in_phase phase.Trailers 0 left 0 sofar [])) (Go (in_phase phase.Data n (left - n) 0 sofar []))) (chunks_decoded_from_state bytes) bytes ≡ Whole (Some c) rest
         → Ahead left l (b ∷ bytes) sofar c rest
     by_number n says is_lf true z h =
         let said = size_says l left n says in
@@ -175,7 +175,7 @@ on_size b bytes c rest later left sofar l none h = by_test (b == 10) refl (nat_l
         }
 
     by_test : (t : Bool) → (b == 10) ≡ t → (u : Bool) → (r : Result ℕ FrameFault) → chunk_size_of_line l left ≡ r
-        → content_after_step (cond t (step_after_size_line (in_phase phase.Size 0 left 0 sofar l) r) (cond u (Go (in_phase phase.Size 0 left 0 sofar (l ++ b ∷ []))) (Fail fault.Chunk))) (content_from_decoder bytes) bytes ≡ Whole (Some c) rest
+        → content_after_step (cond t (step_after_size_line (in_phase phase.Size 0 left 0 sofar l) r) (cond u (Go (in_phase phase.Size 0 left 0 sofar (l ++ b ∷ []))) (Fail fault.Chunk))) (chunks_decoded_from_state bytes) bytes ≡ Whole (Some c) rest
         → Ahead left l (b ∷ bytes) sofar c rest
     by_test true p u (Ok n) says h = by_number n says (eqb-true _ _ p) (n == 0) refl h
     by_test true p u (Err f) says h = absurd cc
@@ -185,14 +185,14 @@ on_size b bytes c rest later left sofar l none h = by_test (b == 10) refl (nat_l
     by_test false p false r says h = absurd cc
 
 on_trailers : (b : ℕ) (bytes c rest : List ℕ) → Sound bytes c rest → (left used : ℕ) (sofar l : List ℕ) → has_no_lf l ≡ true
-    → content_from_decoder (b ∷ bytes) (in_phase phase.Trailers 0 left used sofar l) ≡ Whole (Some c) rest → AheadTrailers used l (b ∷ bytes) sofar c rest
+    → chunks_decoded_from_state (b ∷ bytes) (in_phase phase.Trailers 0 left used sofar l) ≡ Whole (Some c) rest → AheadTrailers used l (b ∷ bytes) sofar c rest
 on_trailers b bytes c rest later left used sofar l none h = by_room (nat_lt (used + length l) most_trailer_bytes) refl h
   where
     same_end : Whole (Some sofar) bytes ≡ Whole (Some c) rest → (c ≡ sofar) × (bytes ≡ rest)
     same_end e = (cc, cc)
 
     by_length : used + length l < most_trailer_bytes → b ≡ 10 → ends_in_cr l ≡ true → (z : Bool) → (length l == 1) ≡ z
-        → content_after_step (cond z (Stop sofar) (Go (in_phase phase.Trailers 0 left (used + length l + 1) sofar []))) (content_from_decoder bytes) bytes ≡ Whole (Some c) rest
+        → content_after_step (cond z (Stop sofar) (Go (in_phase phase.Trailers 0 left (used + length l + 1) sofar []))) (chunks_decoded_from_state bytes) bytes ≡ Whole (Some c) rest
         → AheadTrailers used l (b ∷ bytes) sofar c rest
     by_length room is_lf e true z h =
         let one : length l ≡ 1 = eqb-true _ _ z in
@@ -219,13 +219,13 @@ on_trailers b bytes c rest later left used sofar l none h = by_room (nat_lt (use
         }
 
     by_end : used + length l < most_trailer_bytes → b ≡ 10 → (e : Bool) → ends_in_cr l ≡ e
-        → content_after_step (cond e (cond (length l == 1) (Stop sofar) (Go (in_phase phase.Trailers 0 left (used + length l + 1) sofar []))) (Fail fault.Chunk)) (content_from_decoder bytes) bytes ≡ Whole (Some c) rest
+        → content_after_step (cond e (cond (length l == 1) (Stop sofar) (Go (in_phase phase.Trailers 0 left (used + length l + 1) sofar []))) (Fail fault.Chunk)) (chunks_decoded_from_state bytes) bytes ≡ Whole (Some c) rest
         → AheadTrailers used l (b ∷ bytes) sofar c rest
     by_end room is_lf true e h = by_length room is_lf e (length l == 1) refl h
     by_end room is_lf false e h = absurd cc
 
     by_lf : used + length l < most_trailer_bytes → (t : Bool) → (b == 10) ≡ t
-        → content_after_step (cond t (step_after_trailer_line (in_phase phase.Trailers 0 left used sofar l)) (Go (in_phase phase.Trailers 0 left used sofar (l ++ b ∷ [])))) (content_from_decoder bytes) bytes ≡ Whole (Some c) rest
+        → content_after_step (cond t (step_after_trailer_line (in_phase phase.Trailers 0 left used sofar l)) (Go (in_phase phase.Trailers 0 left used sofar (l ++ b ∷ [])))) (chunks_decoded_from_state bytes) bytes ≡ Whole (Some c) rest
         → AheadTrailers used l (b ∷ bytes) sofar c rest
     by_lf room true p h = by_end room (eqb-true _ _ p) (ends_in_cr l) refl h
     by_lf room false p h =
@@ -233,7 +233,7 @@ on_trailers b bytes c rest later left used sofar l none h = by_room (nat_lt (use
         record { ts = a.ts; all = a.all; fits = a.fits; reads = sym (append_assoc l (b ∷ []) bytes) ∙ a.reads; gives = a.gives }
 
     by_room : (r : Bool) → nat_lt (used + length l) most_trailer_bytes ≡ r
-        → content_after_step (cond r (cond (b == 10) (step_after_trailer_line (in_phase phase.Trailers 0 left used sofar l)) (Go (in_phase phase.Trailers 0 left used sofar (l ++ b ∷ [])))) (Fail fault.Chunk)) (content_from_decoder bytes) bytes ≡ Whole (Some c) rest
+        → content_after_step (cond r (cond (b == 10) (step_after_trailer_line (in_phase phase.Trailers 0 left used sofar l)) (Go (in_phase phase.Trailers 0 left used sofar (l ++ b ∷ [])))) (Fail fault.Chunk)) (chunks_decoded_from_state bytes) bytes ≡ Whole (Some c) rest
         → AheadTrailers used l (b ∷ bytes) sofar c rest
     by_room true p h = by_lf (ltb-true _ _ p) (b == 10) refl h
     by_room false p h = absurd cc
@@ -245,8 +245,8 @@ sound (b ∷ bytes) c rest =
     record { size = on_size b bytes c rest later; dat = on_data b bytes c rest later; ends = on_end b bytes c rest later; ends_cr = on_end_cr b bytes c rest later; trailers = on_trailers b bytes c rest later }
 
 -- content that is read is printed so
-pub read_is_print : (max_body : ℕ) (bytes c rest : List ℕ) → chunked_content max_body bytes ≡ Whole (Some c) rest
-    → (t : ChunkedBody) × IsChunkedBody max_body t × (bytes ≡ chunked_body_text t rest) × (c ≡ data_of_chunks t.chunks)
+pub read_is_print : (max_body : ℕ) (bytes c rest : List ℕ) → decoded_chunked_content max_body bytes ≡ Whole (Some c) rest
+    → (t : ChunkedBody) × IsChunkedBody max_body t × (bytes ≡ chunked_body_text_with_rest t rest) × (c ≡ data_of_chunks t.chunks)
 read_is_print max_body bytes c rest h =
     let a = (sound bytes c rest).size max_body [] [] refl h in
     (a.t, a.is, a.reads, a.gives)

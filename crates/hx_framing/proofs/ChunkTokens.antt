@@ -8,23 +8,23 @@ use Rattle.hx_framing.specs.declared.contents.chunk_tokens.ChunkPhase.{ChunkPhas
 use Rattle.hx_framing.specs.declared.contents.chunk_tokens.ChunkPhase.TheVariants as phase
 use Rattle.hx_framing.specs.declared.contents.chunk_tokens.ChunkState.{ChunkState}
 use Rattle.hx_framing.specs.declared.contents.chunk_tokens.ChunkToken.TheVariants as token
-use Rattle.hx_framing.specs.ChunkDecoder.{ChunkDecoder, decoder_of_state}
-use Rattle.hx_framing.specs.Chunks.{most_trailer_bytes, Go, Stop, Fail, content_after_step, content_from_decoder, decoder_after_step, decoder_after_bytes, decoder_with_line, step_after_size_line, step_in_size_line, step_after_trailer_line, step_in_trailers}
+use Rattle.hx_framing.specs.ChunkDecoder.{ChunkDecoder, chunk_decoder_with_empty_line}
+use Rattle.hx_framing.specs.Chunks.{most_trailer_bytes, Go, Stop, Fail, content_after_step, chunks_decoded_from_state, decoder_after_step, decoder_after_bytes, decoder_with_phase_and_line, step_after_size_line, step_in_size_line, step_after_trailer_line, step_in_trailers}
 use Rattle.hx_framing.specs.ChunkGrammar.{has_no_lf}
 use Rattle.hx_framing.specs.ChunkTokens.{ChunkTokenIsTaken, IsIndexOfFirstLineFeed}
-use Rattle.hx_framing.specs.SizeLine.{most_chunk_size_line_bytes, chunk_size_of_line, chunk_size_of, is_chunk_size_text, ends_in_cr, without_last_byte, number_at_most}
+use Rattle.hx_framing.specs.SizeLine.{most_chunk_size_line_bytes, chunk_size_of_line, chunk_size_of, is_chunk_size_text, ends_in_cr, without_last_byte, number_if_at_most}
 use Rattle.hx_framing.proofs.ChunkSteps.{size_text, size_short, in_phase, data_part, data_run, trailer_text}
 use Rattle.hx_framing.proofs.ChunkStreams.{chunks_behind, state_behind}
 
 -- a place whose phase is known
 known_phase : (place : ChunkState) (content : List ℕ) (p : ChunkPhase) → place.phase ≡ p
-    → decoder_of_state place content ≡ in_phase p place.need place.left place.used content []
+    → chunk_decoder_with_empty_line place content ≡ in_phase p place.need place.left place.used content []
 known_phase place content p e = ap (λ p. in_phase p place.need place.left place.used content []) e
 
 -- a part of a line, in a known phase
 part : (place : ChunkState) (content bytes : List ℕ) (p : ChunkPhase) → place.phase ≡ p
     → decoder_after_bytes bytes (in_phase p place.need place.left place.used content []) ≡ Some (in_phase p place.need place.left place.used content bytes)
-    → decoder_after_bytes bytes (decoder_of_state place content) ≡ Some (record (decoder_of_state place content) { line = bytes })
+    → decoder_after_bytes bytes (chunk_decoder_with_empty_line place content) ≡ Some (record (chunk_decoder_with_empty_line place content) { line = bytes })
 part place content bytes p is leads =
     ap (decoder_after_bytes bytes) (known_phase place content p is)
     ∙ leads
@@ -49,17 +49,17 @@ take_length n bytes inside = omega (arith, length-take n bytes)
 
 -- bytes that lead into a state, and the byte behind them
 one_more : (bytes more : List ℕ) (n : ℕ) (s t : ChunkDecoder) (b : ℕ) → n < length bytes → get_or bytes n 0 ≡ b → decoder_after_bytes (take n bytes) s ≡ Some t
-    → content_from_decoder (bytes ++ more) s ≡ content_from_decoder (b ∷ (drop (n + 1) bytes ++ more)) t
+    → chunks_decoded_from_state (bytes ++ more) s ≡ chunks_decoded_from_state (b ∷ (drop (n + 1) bytes ++ more)) t
 one_more bytes more n s t b inside here leads =
-    ap (λ l. content_from_decoder l s) (cut bytes more n inside)
+    ap (λ l. chunks_decoded_from_state l s) (cut bytes more n inside)
     ∙ chunks_behind (take n bytes) (get_or bytes n 0 ∷ (drop (n + 1) bytes ++ more)) s t leads
-    ∙ ap (λ b. content_from_decoder (b ∷ (drop (n + 1) bytes ++ more)) t) here
+    ∙ ap (λ b. chunks_decoded_from_state (b ∷ (drop (n + 1) bytes ++ more)) t) here
 
 -- ---- size lines
 
 -- the line without its LF
 size_line_read : (place : ChunkState) (content bytes : List ℕ) (at : ℕ) → place.phase ≡ phase.Size → IsIndexOfFirstLineFeed bytes most_chunk_size_line_bytes at
-    → decoder_after_bytes (take at bytes) (decoder_of_state place content) ≡ Some (in_phase phase.Size place.need place.left place.used content (take at bytes))
+    → decoder_after_bytes (take at bytes) (chunk_decoder_with_empty_line place content) ≡ Some (in_phase phase.Size place.need place.left place.used content (take at bytes))
 size_line_read place content bytes at is_chunk_size_text feed =
     let long = take_length at bytes (omega (arith, feed.inside)) in
     ap (decoder_after_bytes (take at bytes)) (known_phase place content phase.Size is_chunk_size_text)
@@ -68,12 +68,12 @@ size_line_read place content bytes at is_chunk_size_text feed =
 -- the line with its LF
 size_line_taken : (place : ChunkState) (content bytes : List ℕ) (at n : ℕ)
     → place.phase ≡ phase.Size → IsIndexOfFirstLineFeed bytes most_chunk_size_line_bytes at → chunk_size_of_line (take at bytes) place.left ≡ Ok n
-    → decoder_after_bytes (take (at + 1) bytes) (decoder_of_state place content)
+    → decoder_after_bytes (take (at + 1) bytes) (chunk_decoder_with_empty_line place content)
     ≡ decoder_after_step (step_after_size_line (in_phase phase.Size place.need place.left place.used content (take at bytes)) (Ok n)) (decoder_after_bytes [])
 size_line_taken place content bytes at n is_chunk_size_text feed said =
     let s = in_phase phase.Size place.need place.left place.used content (take at bytes) in
-    ap (λ l. decoder_after_bytes l (decoder_of_state place content)) (line_with_feed bytes most_chunk_size_line_bytes at feed)
-    ∙ state_behind (take at bytes) (10 ∷ []) (decoder_of_state place content) s (size_line_read place content bytes at is_chunk_size_text feed)
+    ap (λ l. decoder_after_bytes l (chunk_decoder_with_empty_line place content)) (line_with_feed bytes most_chunk_size_line_bytes at feed)
+    ∙ state_behind (take at bytes) (10 ∷ []) (chunk_decoder_with_empty_line place content) s (size_line_read place content bytes at is_chunk_size_text feed)
     ∙ ap (λ r. decoder_after_step (step_after_size_line s r) (decoder_after_bytes [])) said
 
 -- a line that spells no size
@@ -83,8 +83,8 @@ pub size_bad : (place : ChunkState) (content bytes : List ℕ) (at : ℕ) (f : F
 size_bad place content bytes at f is_chunk_size_text feed said = λ more.
     let s = in_phase phase.Size place.need place.left place.used content (take at bytes) in
     let rest = drop (at + 1) bytes ++ more in
-    one_more bytes more at (decoder_of_state place content) s 10 feed.inside feed.here (size_line_read place content bytes at is_chunk_size_text feed)
-    ∙ ap (λ r. content_after_step (step_after_size_line s r) (content_from_decoder rest) rest) said
+    one_more bytes more at (chunk_decoder_with_empty_line place content) s 10 feed.inside feed.here (size_line_read place content bytes at is_chunk_size_text feed)
+    ∙ ap (λ r. content_after_step (step_after_size_line s r) (chunks_decoded_from_state rest) rest) said
 
 -- the size of the last chunk
 pub size_last : (place : ChunkState) (content bytes : List ℕ) (at : ℕ)
@@ -112,19 +112,19 @@ long_line : (line : List ℕ) (left : ℕ) → most_chunk_size_line_bytes ≤ le
 long_line line left long = by_test (ends_in_cr line) (is_chunk_size_text (without_last_byte line)) refl
   where
     by_test : (e t : Bool) → is_chunk_size_text (without_last_byte line) ≡ t
-        → cond (e && t) (ok_or (number_at_most left (chunk_size_of (without_last_byte line))) fault.TooLarge) (Err fault.Chunk) ≡ Err fault.Chunk
+        → cond (e && t) (ok_or (number_if_at_most left (chunk_size_of (without_last_byte line))) fault.TooLarge) (Err fault.Chunk) ≡ Err fault.Chunk
     by_test true true form = absurd (omega (arith, size_short (without_last_byte line) form, length-take (length line - 1) line))
     by_test true false form = refl
     by_test false t form = refl
 
 -- a byte behind such a line
-size_past : (s : ChunkDecoder) (line : List ℕ) (b : ℕ) → length line ≡ most_chunk_size_line_bytes → step_in_size_line (decoder_with_line s phase.Size line) b ≡ Fail fault.Chunk
+size_past : (s : ChunkDecoder) (line : List ℕ) (b : ℕ) → length line ≡ most_chunk_size_line_bytes → step_in_size_line (decoder_with_phase_and_line s phase.Size line) b ≡ Fail fault.Chunk
 size_past s line b long = by_test (b == 10)
   where
     by_test : (t : Bool)
-        → cond t (step_after_size_line (decoder_with_line s phase.Size line) (chunk_size_of_line line s.left)) (cond (nat_lt (length line) most_chunk_size_line_bytes) (Go (decoder_with_line s phase.Size (line ++ b ∷ []))) (Fail fault.Chunk)) ≡ Fail fault.Chunk
-    by_test true = ap (step_after_size_line (decoder_with_line s phase.Size line)) (long_line line s.left (omega arith))
-    by_test false = ap (λ t. cond t (Go (decoder_with_line s phase.Size (line ++ b ∷ []))) (Fail fault.Chunk)) (le-ltb (length line) most_chunk_size_line_bytes (omega arith))
+        → cond t (step_after_size_line (decoder_with_phase_and_line s phase.Size line) (chunk_size_of_line line s.left)) (cond (nat_lt (length line) most_chunk_size_line_bytes) (Go (decoder_with_phase_and_line s phase.Size (line ++ b ∷ []))) (Fail fault.Chunk)) ≡ Fail fault.Chunk
+    by_test true = ap (step_after_size_line (decoder_with_phase_and_line s phase.Size line)) (long_line line s.left (omega arith))
+    by_test false = ap (λ t. cond t (Go (decoder_with_phase_and_line s phase.Size (line ++ b ∷ []))) (Fail fault.Chunk)) (le-ltb (length line) most_chunk_size_line_bytes (omega arith))
 
 -- a line with no LF within the limit
 pub size_open : (place : ChunkState) (content bytes : List ℕ) → place.phase ≡ phase.Size → has_no_lf (take most_chunk_size_line_bytes bytes) ≡ true
@@ -141,9 +141,9 @@ size_open place content bytes is_chunk_size_text none = by_test (nat_lt most_chu
         let rest = drop (most_chunk_size_line_bytes + 1) bytes ++ more in
         let inside : most_chunk_size_line_bytes < length bytes = ltb-true _ _ p in
         let whole = take_length most_chunk_size_line_bytes bytes (omega arith) in
-        ap (content_from_decoder (bytes ++ more)) (known_phase place content phase.Size is_chunk_size_text)
-        ∙ one_more bytes more most_chunk_size_line_bytes s (decoder_with_line s phase.Size line) b inside refl (size_text s [] line none (omega arith))
-        ∙ ap (λ t. content_after_step t (content_from_decoder rest) rest) (size_past s line b whole)
+        ap (chunks_decoded_from_state (bytes ++ more)) (known_phase place content phase.Size is_chunk_size_text)
+        ∙ one_more bytes more most_chunk_size_line_bytes s (decoder_with_phase_and_line s phase.Size line) b inside refl (size_text s [] line none (omega arith))
+        ∙ ap (λ t. content_after_step t (chunks_decoded_from_state rest) rest) (size_past s line b whole)
     by_test false p =
         let short : length bytes ≤ most_chunk_size_line_bytes = ltb-false _ _ p in
         let no_lf : has_no_lf bytes ≡ true = ap has_no_lf (sym (take_all most_chunk_size_line_bytes bytes short)) ∙ none in
@@ -188,7 +188,7 @@ data_all place content bytes n is_data some inside same =
 -- the line without its LF
 trailer_read : (place : ChunkState) (content bytes : List ℕ) (limit at : ℕ)
     → place.phase ≡ phase.Trailers → limit ≡ most_trailer_bytes - place.used → IsIndexOfFirstLineFeed bytes limit at
-    → decoder_after_bytes (take at bytes) (decoder_of_state place content) ≡ Some (in_phase phase.Trailers place.need place.left place.used content (take at bytes))
+    → decoder_after_bytes (take at bytes) (chunk_decoder_with_empty_line place content) ≡ Some (in_phase phase.Trailers place.need place.left place.used content (take at bytes))
 trailer_read place content bytes limit at is_trailers is_limit feed =
     let long = take_length at bytes (omega (arith, feed.inside)) in
     ap (decoder_after_bytes (take at bytes)) (known_phase place content phase.Trailers is_trailers)
@@ -217,8 +217,8 @@ pub trailer_bad : (place : ChunkState) (content bytes : List ℕ) (limit at : �
 trailer_bad place content bytes limit at is_trailers is_limit feed other = λ more.
     let s = in_phase phase.Trailers place.need place.left place.used content (take at bytes) in
     let rest = drop (at + 1) bytes ++ more in
-    one_more bytes more at (decoder_of_state place content) s 10 feed.inside feed.here (trailer_read place content bytes limit at is_trailers is_limit feed)
-    ∙ ap (λ t. content_after_step t (content_from_decoder rest) rest) (trailer_feed place content bytes limit at is_limit feed false (length (take at bytes) == 1) other refl)
+    one_more bytes more at (chunk_decoder_with_empty_line place content) s 10 feed.inside feed.here (trailer_read place content bytes limit at is_trailers is_limit feed)
+    ∙ ap (λ t. content_after_step t (chunks_decoded_from_state rest) rest) (trailer_feed place content bytes limit at is_limit feed false (length (take at bytes) == 1) other refl)
 
 -- a trailer line
 pub trailer_some : (place : ChunkState) (content bytes : List ℕ) (limit at : ℕ)
@@ -230,8 +230,8 @@ trailer_some place content bytes limit at is_trailers is_limit feed closed other
       omega (arith, feed.inside),
       omega arith,
       no_data,
-      ap (λ l. decoder_after_bytes l (decoder_of_state place content)) (line_with_feed bytes limit at feed)
-          ∙ state_behind (take at bytes) (10 ∷ []) (decoder_of_state place content) s (trailer_read place content bytes limit at is_trailers is_limit feed)
+      ap (λ l. decoder_after_bytes l (chunk_decoder_with_empty_line place content)) (line_with_feed bytes limit at feed)
+          ∙ state_behind (take at bytes) (10 ∷ []) (chunk_decoder_with_empty_line place content) s (trailer_read place content bytes limit at is_trailers is_limit feed)
           ∙ ap (λ t. decoder_after_step t (decoder_after_bytes [])) (trailer_feed place content bytes limit at is_limit feed true false closed (ne_eqb (length (take at bytes)) 1 other))
           ∙ ap Some (sym (known_phase (record place { used = place.used + at + 1 }) content phase.Trailers is_trailers)),
     )
@@ -241,7 +241,7 @@ trailer_past : (need left used : ℕ) (content line : List ℕ) (b : ℕ) → mo
     → step_in_trailers (in_phase phase.Trailers need left used content line) b ≡ Fail fault.Chunk
 trailer_past need left used content line b over =
     let s = in_phase phase.Trailers need left used content line in
-    ap (λ t. cond t (cond (b == 10) (step_after_trailer_line s) (Go (decoder_with_line s phase.Trailers (line ++ b ∷ [])))) (Fail fault.Chunk)) (le-ltb (used + length line) most_trailer_bytes over)
+    ap (λ t. cond t (cond (b == 10) (step_after_trailer_line s) (Go (decoder_with_phase_and_line s phase.Trailers (line ++ b ∷ [])))) (Fail fault.Chunk)) (le-ltb (used + length line) most_trailer_bytes over)
 
 -- a line with no LF within the limit
 pub trailer_open : (place : ChunkState) (content bytes : List ℕ) (limit : ℕ)
@@ -259,9 +259,9 @@ trailer_open place content bytes limit is_trailers is_limit none = by_test (nat_
         let rest = drop (limit + 1) bytes ++ more in
         let inside : limit < length bytes = ltb-true _ _ p in
         let whole = take_length limit bytes (omega arith) in
-        ap (content_from_decoder (bytes ++ more)) (known_phase place content phase.Trailers is_trailers)
+        ap (chunks_decoded_from_state (bytes ++ more)) (known_phase place content phase.Trailers is_trailers)
         ∙ one_more bytes more limit (s []) (s line) b inside refl (trailer_text place.need place.left place.used content [] line none (omega arith))
-        ∙ ap (λ t. content_after_step t (content_from_decoder rest) rest) (trailer_past place.need place.left place.used content line b (omega arith))
+        ∙ ap (λ t. content_after_step t (chunks_decoded_from_state rest) rest) (trailer_past place.need place.left place.used content line b (omega arith))
     by_test false p =
         let short : length bytes ≤ limit = ltb-false _ _ p in
         let no_lf : has_no_lf bytes ≡ true = ap has_no_lf (sym (take_all limit bytes short)) ∙ none in (

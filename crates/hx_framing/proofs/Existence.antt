@@ -8,14 +8,14 @@ use Rattle.hx_framing.specs.declared.frame_fault.FrameFault.{FrameFault}
 use Rattle.hx_framing.specs.declared.messages.Next.{Next}
 use Rattle.hx_framing.specs.declared.messages.Next.TheVariants.{End}
 use Rattle.hx_framing.specs.HeadEnd.{head_length, most_head_bytes}
-use Rattle.hx_framing.specs.Head.{RequestHeadIsJudged, head_of_parsed_request, request_head_fault}
+use Rattle.hx_framing.specs.Head.{RequestHeadIsJudged, head_of_parsed_request, fault_of_bad_request_head}
 use Rattle.hx_framing.specs.StatusHead as status
 use Rattle.hx_framing.specs.StatusHead.{status_head_of, status_head_fault}
 use Rattle.hx_framing.specs.Lengths.{is_interim}
-use Rattle.hx_framing.specs.Reading.{StreamReading}
+use Rattle.hx_framing.specs.Reading.{StreamReadResult}
 use Rattle.hx_framing.specs.RequestReading.{ReadsAs, RequestReadsByHeadLength, reading_behind_request_head, reading_without_request_head}
 use Rattle.hx_framing.specs.ResponseReading as response
-use Rattle.hx_framing.specs.ResponseReading.{FinalResponseReadsAs, FinalReadsByHeadLength, IsInterimHead, SkipsInterimResponses}
+use Rattle.hx_framing.specs.ResponseReading.{FinalResponseReadsAs, FinalResponseReadsByHeadLength, IsInterimHead, SkipsInterimResponses}
 use Rattle.hx_framing.specs.Progress.{Progress, next_answer_of_reading}
 use Rattle.hx_framing.specs.RequestStream as requests
 use Rattle.hx_framing.specs.RequestStream.{StreamSpells}
@@ -32,7 +32,7 @@ request_judged bytes = by_head (request_decided bytes)
   where
     by_head : HeadOrNot bytes → (judged : Result Head FrameFault) × RequestHeadIsJudged bytes judged
     by_head (inl x) = (Ok (head_of_parsed_request x.0), (x.0, x.1, refl))
-    by_head (inr none) = (Err (request_head_fault bytes), (none, refl))
+    by_head (inr none) = (Err (fault_of_bad_request_head bytes), (none, refl))
 
 pub response_judged : (bytes : List ℕ) → (judged : Result StatusHead FrameFault) × status.ResponseHeadIsJudged bytes judged
 response_judged bytes = by_head (response_decided bytes)
@@ -43,10 +43,10 @@ response_judged bytes = by_head (response_decided bytes)
 
 -- ---- streams of requests
 
-pub request_read : (max : ℕ) (e t : Bool) (bytes : List ℕ) → (reading : StreamReading Request) × ReadsAs max e t bytes reading
+pub request_read : (max : ℕ) (e t : Bool) (bytes : List ℕ) → (reading : StreamReadResult Request) × ReadsAs max e t bytes reading
 request_read max e t bytes = by_place (head_length (take most_head_bytes bytes))
   where
-    by_place : (o : Option ℕ) → (reading : StreamReading Request) × RequestReadsByHeadLength max e t bytes o reading
+    by_place : (o : Option ℕ) → (reading : StreamReadResult Request) × RequestReadsByHeadLength max e t bytes o reading
     by_place None = (reading_without_request_head e bytes, refl)
     by_place (Some n) = let j = request_judged (take n bytes) in (reading_behind_request_head max e t (drop n bytes) j.0, (j.0, j.1, refl))
 
@@ -59,13 +59,13 @@ request_answered p rest spells =
 -- ---- streams of responses
 
 abbrev IsRead : ℕ → Bool → Bool → List ℕ → Type 0
-IsRead max h e bytes = (reading : StreamReading Response) × response.ReadsAs max h e bytes reading
+IsRead max h e bytes = (reading : StreamReadResult Response) × response.ReadsAs max h e bytes reading
 
 -- a stream has a reading where each shorter one has
 read_step : (max : ℕ) (h e : Bool) (bytes : List ℕ) → ((rest : List ℕ) → length rest < length bytes → IsRead max h e rest) → IsRead max h e bytes
 read_step max h e bytes later = by_place (head_length (take most_head_bytes bytes)) refl
   where
-    at_front : (reading : StreamReading Response) → FinalResponseReadsAs max h e bytes reading → IsRead max h e bytes
+    at_front : (reading : StreamReadResult Response) → FinalResponseReadsAs max h e bytes reading → IsRead max h e bytes
     at_front reading front = (reading, ([], bytes, refl, front))
 
     by_status : (n : ℕ) (head : StatusHead) → head_length (take most_head_bytes bytes) ≡ Some n → status.ResponseHeadIsJudged (take n bytes) (Ok head)
@@ -76,23 +76,23 @@ read_step max h e bytes later = by_place (head_length (take most_head_bytes byte
         let r = later (drop n bytes) (omega (arith, length-drop n bytes)) in
         (r.0, (n ∷ r.1.0, r.1.1, (record { place = place; head = head; judged = judged; interim = interim }, r.1.2), r.1.3))
     by_status n head place judged false final =
-        let reading : StreamReading Response = response.reading_behind_response_head max h e (drop n bytes) (Ok head) in
-        at_front reading (subst (λ (o : Option ℕ). FinalReadsByHeadLength max h e bytes o reading) (sym place) (Ok head, judged, final, refl))
+        let reading : StreamReadResult Response = response.reading_behind_response_head max h e (drop n bytes) (Ok head) in
+        at_front reading (subst (λ (o : Option ℕ). FinalResponseReadsByHeadLength max h e bytes o reading) (sym place) (Ok head, judged, final, refl))
 
     by_judged : (n : ℕ) (judged : Result StatusHead FrameFault) → head_length (take most_head_bytes bytes) ≡ Some n → status.ResponseHeadIsJudged (take n bytes) judged
         → IsRead max h e bytes
     by_judged n (Ok head) place judged = by_status n head place judged (is_interim head.status) refl
     by_judged n (Err f) place judged =
-        let reading : StreamReading Response = response.reading_behind_response_head max h e (drop n bytes) (Err f) in
-        at_front reading (subst (λ (o : Option ℕ). FinalReadsByHeadLength max h e bytes o reading) (sym place) (Err f, judged, tt, refl))
+        let reading : StreamReadResult Response = response.reading_behind_response_head max h e (drop n bytes) (Err f) in
+        at_front reading (subst (λ (o : Option ℕ). FinalResponseReadsByHeadLength max h e bytes o reading) (sym place) (Err f, judged, tt, refl))
 
     by_place : (o : Option ℕ) → head_length (take most_head_bytes bytes) ≡ o → IsRead max h e bytes
     by_place None place =
-        let reading : StreamReading Response = response.reading_without_response_head e bytes in
-        at_front reading (subst (λ (o : Option ℕ). FinalReadsByHeadLength max h e bytes o reading) (sym place) refl)
+        let reading : StreamReadResult Response = response.reading_without_response_head e bytes in
+        at_front reading (subst (λ (o : Option ℕ). FinalResponseReadsByHeadLength max h e bytes o reading) (sym place) refl)
     by_place (Some n) place = let j = response_judged (take n bytes) in by_judged n j.0 place j.1
 
-pub response_read : (max : ℕ) (h e : Bool) (bytes : List ℕ) → (reading : StreamReading Response) × response.ReadsAs max h e bytes reading
+pub response_read : (max : ℕ) (h e : Bool) (bytes : List ℕ) → (reading : StreamReadResult Response) × response.ReadsAs max h e bytes reading
 response_read max h e bytes = go (length bytes) bytes (omega arith)
   where
     go : (n : ℕ) (bytes : List ℕ) → length bytes ≤ n → IsRead max h e bytes
@@ -105,6 +105,6 @@ response_answered p given = by_given p.given refl
     by_given : (ms : List Response) → p.given ≡ ms → (answer : Next Response) × responses.Answers p answer
     by_given [] none =
         let read = response_read p.max_body p.to_head p.ended p.stream in
-        (next_answer_of_reading read.0, record { spells = given; by = subst (λ (ms : List Response). responses.IsAnswerAfterGivenResponses p ms (next_answer_of_reading read.0)) (sym none) (read.0, read.1, refl) })
+        (next_answer_of_reading read.0, record { spells = given; by = subst (λ (ms : List Response). responses.IsReadAnswerThenEnd p ms (next_answer_of_reading read.0)) (sym none) (read.0, read.1, refl) })
     by_given (m ∷ ms) some =
-        (End, record { spells = given; by = subst (λ (ms : List Response). responses.IsAnswerAfterGivenResponses p ms End) (sym some) refl })
+        (End, record { spells = given; by = subst (λ (ms : List Response). responses.IsReadAnswerThenEnd p ms End) (sym some) refl })

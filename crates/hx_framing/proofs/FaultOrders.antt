@@ -8,8 +8,8 @@ use Rattle.hx_framing.specs.declared.lengths.framing.RequestFraming.{RequestFram
 use Rattle.hx_framing.specs.declared.heads.request_head.Head.{Head}
 use Rattle.hx_framing.specs.declared.heads.status_head.StatusHead.{StatusHead}
 use Rattle.hx_framing.specs.Fault.{frame_fault_number}
-use Rattle.hx_framing.specs.FaultOrder.{fault_applies_to_request, length_fields_are_judged, fault_applies_to_response, IsLeastFault}
-use Rattle.hx_framing.specs.Lengths.{has_both_length_fields, has_bad_length, has_endless_coding, has_coding_other_than_chunked, is_too_large, expects_other_than_100_continue, framing_has_content, expects_continue, expectation_of_head, framing_of_faultless_fields, framing_of_response, response_has_no_content, is_accepted_status, request_framing_of, framing_with_expectation, framing_if_accepted_status}
+use Rattle.hx_framing.specs.FaultOrder.{fault_applies_to_request_head, response_heeds_length_fields, fault_applies_to_response_head, IsLeastFault}
+use Rattle.hx_framing.specs.Lengths.{has_both_length_fields, has_bad_length_fields, has_coding_of_unknown_end, has_coding_other_than_chunked, is_too_large, expects_other_than_100_continue, framing_has_content, expects_continue, expectation_of_head, framing_of_faultless_fields, framing_of_response, response_has_no_content, is_accepted_status, request_framing_of, framing_with_expectation, framing_if_accepted_status}
 
 -- the faults of a head, of which some stand
 abbrev applies : Bool → Bool → Bool → Bool → Bool → Bool → FrameFault → Bool
@@ -168,11 +168,11 @@ shown_request_body head =
     record { framing = shown; wants_continue = expects_continue (expectation_of_head head) && framing_has_content shown }
 
 request_first : (max : ℕ) (head : Head) → request_framing_of max head
-    ≡ first_bytes (has_both_length_fields head.fields) (has_bad_length head.minor head.fields || has_endless_coding head.fields) (has_coding_other_than_chunked head.fields)
+    ≡ first_bytes (has_both_length_fields head.fields) (has_bad_length_fields head.minor head.fields || has_coding_of_unknown_end head.fields) (has_coding_other_than_chunked head.fields)
     (is_too_large max head.fields) (expects_other_than_100_continue (expectation_of_head head)) false (shown_request_body head)
 unfolding shown_request_body
 request_first max head =
-    by_tests (has_both_length_fields head.fields) (has_bad_length head.minor head.fields || has_endless_coding head.fields) (has_coding_other_than_chunked head.fields) (is_too_large max head.fields)
+    by_tests (has_both_length_fields head.fields) (has_bad_length_fields head.minor head.fields || has_coding_of_unknown_end head.fields) (has_coding_other_than_chunked head.fields) (is_too_large max head.fields)
   where
     by_tests : (a b c d : Bool) → framing_with_expectation (expectation_of_head head) (cond a (Err fault.BothLengths) (cond b (Err fault.Length) (cond c (Err fault.Coding)
         (cond d (Err fault.TooLarge) (Ok (framing_of_faultless_fields framing.Nothing head.fields))))))
@@ -184,9 +184,9 @@ request_first max head =
     by_tests false false false false = refl
 
 request_table : (max : ℕ) (head : Head) (f : FrameFault)
-    → applies (has_both_length_fields head.fields) (has_bad_length head.minor head.fields || has_endless_coding head.fields) (has_coding_other_than_chunked head.fields)
+    → applies (has_both_length_fields head.fields) (has_bad_length_fields head.minor head.fields || has_coding_of_unknown_end head.fields) (has_coding_other_than_chunked head.fields)
     (is_too_large max head.fields) (expects_other_than_100_continue (expectation_of_head head)) false f
-    ≡ fault_applies_to_request max head f
+    ≡ fault_applies_to_request_head max head f
 request_table max head fault.Head = refl
 request_table max head fault.Version = refl
 request_table max head fault.BothLengths = refl
@@ -198,27 +198,27 @@ request_table max head fault.Expect = refl
 request_table max head fault.Truncated = refl
 request_table max head fault.Status = refl
 
-pub request_least : (max : ℕ) (head : Head) (f : FrameFault) → request_framing_of max head ≡ Err f → IsLeastFault (fault_applies_to_request max head) f
+pub request_least : (max : ℕ) (head : Head) (f : FrameFault) → request_framing_of max head ≡ Err f → IsLeastFault (fault_applies_to_request_head max head) f
 request_least max head f h =
-    same_least _ (fault_applies_to_request max head) f (request_table max head)
-    (least (has_both_length_fields head.fields) (has_bad_length head.minor head.fields || has_endless_coding head.fields) (has_coding_other_than_chunked head.fields)
+    same_least _ (fault_applies_to_request_head max head) f (request_table max head)
+    (least (has_both_length_fields head.fields) (has_bad_length_fields head.minor head.fields || has_coding_of_unknown_end head.fields) (has_coding_other_than_chunked head.fields)
     (is_too_large max head.fields) (expects_other_than_100_continue (expectation_of_head head)) false (shown_request_body head) f (sym (request_first max head) ∙ h))
 
-pub request_none : (max : ℕ) (head : Head) (request_body : RequestFraming) → request_framing_of max head ≡ Ok request_body → (f : FrameFault) → fault_applies_to_request max head f ≡ false
+pub request_none : (max : ℕ) (head : Head) (request_body : RequestFraming) → request_framing_of max head ≡ Ok request_body → (f : FrameFault) → fault_applies_to_request_head max head f ≡ false
 request_none max head request_body h f =
     sym (request_table max head f)
-    ∙ none_applies (has_both_length_fields head.fields) (has_bad_length head.minor head.fields || has_endless_coding head.fields) (has_coding_other_than_chunked head.fields)
+    ∙ none_applies (has_both_length_fields head.fields) (has_bad_length_fields head.minor head.fields || has_coding_of_unknown_end head.fields) (has_coding_other_than_chunked head.fields)
     (is_too_large max head.fields) (expects_other_than_100_continue (expectation_of_head head)) false (shown_request_body head) request_body f (sym (request_first max head) ∙ h)
 
 -- ---- responses
 
 response_framing : Bool → StatusHead → Framing
-response_framing to_head head = cond (length_fields_are_judged to_head head) (framing_of_faultless_fields framing.UntilClose head.fields) framing.Nothing
+response_framing to_head head = cond (response_heeds_length_fields to_head head) (framing_of_faultless_fields framing.UntilClose head.fields) framing.Nothing
 
 abbrev table_of : ℕ → Bool → StatusHead → FrameFault → Bool
 table_of max to_head head =
-    let judged : Bool = length_fields_are_judged to_head head in
-    applies (judged && has_both_length_fields head.fields) (judged && has_bad_length head.minor head.fields) (judged && has_coding_other_than_chunked head.fields)
+    let judged : Bool = response_heeds_length_fields to_head head in
+    applies (judged && has_both_length_fields head.fields) (judged && has_bad_length_fields head.minor head.fields) (judged && has_coding_other_than_chunked head.fields)
     (judged && is_too_large max head.fields) false (not (is_accepted_status head.status))
 
 or_false : (t : Bool) → (t || false) ≡ t
@@ -235,17 +235,17 @@ same_status status (Err f) = refl
 same_status status (Ok shown) = refl
 
 response_order : (max : ℕ) (to_head : Bool) (head : StatusHead) → framing_of_response max to_head head
-    ≡ first_bytes (length_fields_are_judged to_head head && has_both_length_fields head.fields) (length_fields_are_judged to_head head && has_bad_length head.minor head.fields)
-    (length_fields_are_judged to_head head && has_coding_other_than_chunked head.fields) (length_fields_are_judged to_head head && is_too_large max head.fields) false
+    ≡ first_bytes (response_heeds_length_fields to_head head && has_both_length_fields head.fields) (response_heeds_length_fields to_head head && has_bad_length_fields head.minor head.fields)
+    (response_heeds_length_fields to_head head && has_coding_other_than_chunked head.fields) (response_heeds_length_fields to_head head && is_too_large max head.fields) false
     (not (is_accepted_status head.status)) (response_framing to_head head)
 unfolding response_framing
 response_order max to_head head =
     ap (λ (t : Bool). framing_if_accepted_status head.status (cond (head.status == 101 || response_has_no_content to_head head.status) (Ok framing.Nothing)
     (cond (has_both_length_fields head.fields) (Err fault.BothLengths) (cond t (Err fault.Length) (cond (has_coding_other_than_chunked head.fields) (Err fault.Coding)
     (cond (is_too_large max head.fields) (Err fault.TooLarge) (Ok (framing_of_faultless_fields framing.UntilClose head.fields))))))))
-    (or_false (has_bad_length head.minor head.fields))
+    (or_false (has_bad_length_fields head.minor head.fields))
     ∙ same_status head.status _
-    ∙ by_tests (head.status == 101 || response_has_no_content to_head head.status) (has_both_length_fields head.fields) (has_bad_length head.minor head.fields) (has_coding_other_than_chunked head.fields)
+    ∙ by_tests (head.status == 101 || response_has_no_content to_head head.status) (has_both_length_fields head.fields) (has_bad_length_fields head.minor head.fields) (has_coding_other_than_chunked head.fields)
     (is_too_large max head.fields) (is_accepted_status head.status)
   where
     by_tests : (w a b c d s : Bool)
@@ -261,7 +261,7 @@ response_order max to_head head =
     by_tests false false false false false true = refl
     by_tests false false false false false false = refl
 
-response_table : (max : ℕ) (to_head : Bool) (head : StatusHead) (f : FrameFault) → table_of max to_head head f ≡ fault_applies_to_response max to_head head f
+response_table : (max : ℕ) (to_head : Bool) (head : StatusHead) (f : FrameFault) → table_of max to_head head f ≡ fault_applies_to_response_head max to_head head f
 response_table max to_head head fault.Head = refl
 response_table max to_head head fault.Version = refl
 response_table max to_head head fault.BothLengths = refl
@@ -274,17 +274,17 @@ response_table max to_head head fault.Truncated = refl
 response_table max to_head head fault.Status = refl
 
 pub response_least : (max : ℕ) (to_head : Bool) (head : StatusHead) (f : FrameFault) → framing_of_response max to_head head ≡ Err f
-    → IsLeastFault (fault_applies_to_response max to_head head) f
+    → IsLeastFault (fault_applies_to_response_head max to_head head) f
 response_least max to_head head f h =
-    same_least (table_of max to_head head) (fault_applies_to_response max to_head head) f (response_table max to_head head)
-    (least (length_fields_are_judged to_head head && has_both_length_fields head.fields) (length_fields_are_judged to_head head && has_bad_length head.minor head.fields)
-    (length_fields_are_judged to_head head && has_coding_other_than_chunked head.fields) (length_fields_are_judged to_head head && is_too_large max head.fields) false
+    same_least (table_of max to_head head) (fault_applies_to_response_head max to_head head) f (response_table max to_head head)
+    (least (response_heeds_length_fields to_head head && has_both_length_fields head.fields) (response_heeds_length_fields to_head head && has_bad_length_fields head.minor head.fields)
+    (response_heeds_length_fields to_head head && has_coding_other_than_chunked head.fields) (response_heeds_length_fields to_head head && is_too_large max head.fields) false
     (not (is_accepted_status head.status)) (response_framing to_head head) f (sym (response_order max to_head head) ∙ h))
 
 pub response_none : (max : ℕ) (to_head : Bool) (head : StatusHead) (framing : Framing) → framing_of_response max to_head head ≡ Ok framing
-    → (f : FrameFault) → fault_applies_to_response max to_head head f ≡ false
+    → (f : FrameFault) → fault_applies_to_response_head max to_head head f ≡ false
 response_none max to_head head shown h f =
     sym (response_table max to_head head f)
-    ∙ none_applies (length_fields_are_judged to_head head && has_both_length_fields head.fields) (length_fields_are_judged to_head head && has_bad_length head.minor head.fields)
-    (length_fields_are_judged to_head head && has_coding_other_than_chunked head.fields) (length_fields_are_judged to_head head && is_too_large max head.fields) false
+    ∙ none_applies (response_heeds_length_fields to_head head && has_both_length_fields head.fields) (response_heeds_length_fields to_head head && has_bad_length_fields head.minor head.fields)
+    (response_heeds_length_fields to_head head && has_coding_other_than_chunked head.fields) (response_heeds_length_fields to_head head && is_too_large max head.fields) false
     (not (is_accepted_status head.status)) (response_framing to_head head) shown f (sym (response_order max to_head head) ∙ h)

@@ -7,8 +7,8 @@ use Rattle.hx_framing.specs.declared.frame_fault.FrameFault.{FrameFault}
 use Rattle.hx_framing.specs.declared.frame_fault.FrameFault.TheVariants as fault
 use Rattle.hx_framing.specs.declared.lengths.framing.Framing.{Framing}
 use Rattle.hx_framing.specs.declared.lengths.framing.Framing.TheVariants as framing
-use Rattle.hx_framing.specs.ContentLength.{content_length_name, announced_length, announced_length_up_to}
-use Rattle.hx_framing.specs.Lengths.{transfer_encoding_name, codings, last_coding_is_chunked, is_only_chunked, announced_framing, exceeds, announced_framing_or, framing_without_codings, framing_of_codings, framing_of_lengths, has_endless_coding}
+use Rattle.hx_framing.specs.ContentLength.{content_length_name, announced_length, announced_length_up_to_or_fault}
+use Rattle.hx_framing.specs.Lengths.{transfer_encoding_name, codings, only_last_coding_is_chunked, is_only_chunked, announced_framing, exceeds, announced_framing_or, framing_without_codings, framing_of_codings, framing_by_length_fields, has_coding_of_unknown_end}
 use Rattle.hx_framing.proofs.LengthShown.{absent_shown}
 
 -- coded, stands: which of the fields stand; zero: it is HTTP/1.0; endless, only: what the codings are
@@ -24,7 +24,7 @@ module _ (max_body : ℕ) (neither : Framing) where
   abbrev judged_uncoded : (coded represents zero : Bool) → Option ℕ → Option (Result Framing FrameFault)
   judged_uncoded coded represents zero shown =
       cond (coded && represents) (Some (Err fault.BothLengths))
-      (cond (not coded) (Some (cond represents (announced_framing (announced_length_up_to max_body shown)) (Ok neither)))
+      (cond (not coded) (Some (cond represents (announced_framing (announced_length_up_to_or_fault max_body shown)) (Ok neither)))
       (cond zero (Some (Err fault.Length)) None))
 
   above : {A : Type 0} (n : ℕ) (large small : A) → cond (nat_lt max_body n) large small ≡ cond (nat_le n max_body) small large
@@ -36,7 +36,7 @@ module _ (max_body : ℕ) (neither : Framing) where
 
   -- without codings
   by_length : (represents zero only : Bool) (shown : Option ℕ) → (represents ≡ false → shown ≡ None)
-      → judged false represents zero false only shown ≡ cond represents (announced_framing (announced_length_up_to max_body shown)) (Ok neither)
+      → judged false represents zero false only shown ≡ cond represents (announced_framing (announced_length_up_to_or_fault max_body shown)) (Ok neither)
   by_length true zero only None none = refl
   by_length true zero only (Some n) none = above n (Err fault.TooLarge) (Ok (framing.Announced n)) ∙ by_test (nat_le n max_body)
     where
@@ -68,11 +68,11 @@ module _ (max_body : ℕ) (neither : Framing) where
 
 pub lengths-uncoded : (max_body minor : ℕ) (neither : Framing) (must_end : Bool) (fields : List Field)
     → MatchOption (framing_without_codings max_body minor neither fields)
-    (framing_of_lengths max_body minor neither (must_end && has_endless_coding fields) fields ≡ framing_of_codings must_end (codings fields))
-    (λ r. framing_of_lengths max_body minor neither (must_end && has_endless_coding fields) fields ≡ r)
+    (framing_by_length_fields max_body minor neither (must_end && has_coding_of_unknown_end fields) fields ≡ framing_of_codings must_end (codings fields))
+    (λ r. framing_by_length_fields max_body minor neither (must_end && has_coding_of_unknown_end fields) fields ≡ r)
 lengths-uncoded max_body minor neither must_end fields =
     by_lengths max_body neither (has_field fields transfer_encoding_name) (has_field fields content_length_name) (minor == 0) must_end
-    (last_coding_is_chunked (codings fields)) (is_only_chunked (codings fields)) (announced_length fields) (absent_shown fields)
+    (only_last_coding_is_chunked (codings fields)) (is_only_chunked (codings fields)) (announced_length fields) (absent_shown fields)
 
 -- what a call found without the codings, and where they count
 module _ (whole coded : Result Framing FrameFault) where

@@ -24,7 +24,7 @@ use Rattle.hx_framing.specs.HeadEnd.{empty_lines_length, head_length, most_head_
 use Rattle.hx_framing.specs.Version.{start_line, without_trailing_cr}
 use Rattle.hx_framing.specs.Head.{IsHeadOfRequest, RequestHeadIsJudged, field_of_parsed_line, head_of_parsed_request}
 use Rattle.hx_framing.specs.StatusHead as status
-use Rattle.hx_framing.specs.StatusHead.{IsStatusHead, status_head_of}
+use Rattle.hx_framing.specs.StatusHead.{IsWholeResponseHead, status_head_of}
 use Rattle.hx_framing.specs.Body.{ContentParseResult, Short, Bad, Whole}
 use Rattle.hx_framing.specs.Contents.{content_by_framing}
 use Rattle.hx_framing.specs.ContentLength.{content_length_name}
@@ -32,8 +32,8 @@ use Rattle.hx_framing.specs.Lengths.{transfer_encoding_name, request_framing_of,
 use Rattle.hx_framing.specs.Reading.{Continue, Over, Spelled, Faulty, truncated_or_incomplete, reading_of_content}
 use Rattle.hx_framing.specs.RequestReading.{ReadsAs, RequestReadsByHeadLength, request_of_head, reading_with_request_body}
 use Rattle.hx_framing.specs.ResponseReading as response
-use Rattle.hx_framing.specs.ResponseReading.{FinalReadsByHeadLength, SkipsInterimResponses, response_of_head, reading_with_framing}
-use Rattle.hx_framing.specs.GivenFields.{HeadGivesFields, LineSpellsRequestLine, LineSpellsStatusLine, reason_phrase_text, is_request_target_byte}
+use Rattle.hx_framing.specs.ResponseReading.{FinalResponseReadsByHeadLength, SkipsInterimResponses, response_of_head, response_reading_by_framing}
+use Rattle.hx_framing.specs.GivenFields.{HeadGivesFields, LineSpellsRequestLine, LineSpellsStatusLine, space_and_reason_phrase_if_any, is_request_target_byte}
 use Rattle.hx_framing.proofs.HeadLineLemmas.{IsNo, each, token_byte, uri_byte, digit_byte, token, first_at, with_return, without_trailing_cr-is, text_of, blank_is, lines_of, one_line, section_lines, empty_end, version}
 use Rattle.hx_framing.proofs.GivenLemmas.{spell_all}
 
@@ -164,7 +164,7 @@ reason_bytes stop None apart off pass = All-nil (IsNo stop)
 reason_bytes stop (Some phrase) apart off pass =
     All-cons (IsNo stop) 32 phrase apart (each is_value_byte (IsNo stop) phrase (not_this is_value_byte stop off) pass)
 
-split_response : (bytes : List ℕ) (h : ResponseHead) → IsStatusHead bytes h → Split bytes (status_line h) h.line_end h.fields h.last
+split_response : (bytes : List ℕ) (h : ResponseHead) → IsWholeResponseHead bytes h → Split bytes (status_line h) h.line_end h.fields h.last
 split_response bytes h head =
     let digits = head.0.0.digits.1 in record {
       ends = h.blank;
@@ -186,7 +186,7 @@ split_response bytes h head =
     regroup : (v d r e s : List ℕ) → v ++ 32 ∷ (d ++ (r ++ (e ++ (s ++ [])))) ≡ (v ++ 32 ∷ (d ++ r)) ++ (e ++ s)
     regroup v d r e s = simp (append_assoc, append-nil)
 
-response_starts : (bytes : List ℕ) (h : ResponseHead) → IsStatusHead bytes h → LineSpellsStatusLine (start_line bytes) (status_head_of h)
+response_starts : (bytes : List ℕ) (h : ResponseHead) → IsWholeResponseHead bytes h → LineSpellsStatusLine (start_line bytes) (status_head_of h)
 response_starts bytes h head = record {
   digits = h.digits;
   phrase = h.reason;
@@ -197,7 +197,7 @@ response_starts bytes h head = record {
   minor = head.0.0.minor;
 }
   where
-    same_reason : (r : Option (List ℕ)) → print_version h.minor ++ 32 ∷ (h.digits ++ print_reason r) ≡ print_version h.minor ++ 32 ∷ (h.digits ++ reason_phrase_text r)
+    same_reason : (r : Option (List ℕ)) → print_version h.minor ++ 32 ∷ (h.digits ++ print_reason r) ≡ print_version h.minor ++ 32 ∷ (h.digits ++ space_and_reason_phrase_if_any r)
     same_reason None = refl
     same_reason (Some phrase) = refl
 
@@ -252,13 +252,13 @@ request_lines_given max e t bytes given rest reads = by_place (head_length (take
     by_place (Some n) place (Ok head, judged, is) =
         (n, place, (head.fields, request_gives (take n bytes) head judged, request_body_makes max e t head (drop n bytes) given rest (request_framing_of max head) is))
 
-abbrev ResponseLines : List ℕ → Response → Type 0
-ResponseLines front given =
+abbrev LinesAfterStatusLine : List ℕ → Response → Type 0
+LinesAfterStatusLine front given =
     (n : ℕ) × (head_length (take most_head_bytes front) ≡ Some n)
     × ((fields : List Line) × HeadGivesFields (take n front) fields × (given.fields ≡ without_length_fields fields))
 
 framing_makes : (max : ℕ) (h e : Bool) (head : StatusHead) (bytes : List ℕ) (m : Response) (rest : List ℕ) (f : Result Framing FrameFault)
-    → Spelled m rest ≡ reading_with_framing max h e head bytes f → m.fields ≡ without_length_fields head.fields
+    → Spelled m rest ≡ response_reading_by_framing max h e head bytes f → m.fields ≡ without_length_fields head.fields
 framing_makes max h e head bytes m rest (Err f) is = absurd cc
 framing_makes max h e head bytes m rest (Ok framing) is =
     let made = body_makes e (response_of_head h head) (content_by_framing max framing e bytes) m rest is in ap (λ (r : Response). r.fields) made.1
@@ -269,11 +269,11 @@ no_response true false m r is = cc
 no_response false false m r is = cc
 
 pub response_lines_given : (max : ℕ) (h e : Bool) (bytes : List ℕ) (given : Response) (rest : List ℕ) → response.ReadsAs max h e bytes (Spelled given rest)
-    → (sizes : List ℕ) × (front : List ℕ) × SkipsInterimResponses bytes sizes front × ResponseLines front given
+    → (sizes : List ℕ) × (front : List ℕ) × SkipsInterimResponses bytes sizes front × LinesAfterStatusLine front given
 response_lines_given max h e bytes given rest (sizes, front, passes, reads) =
     (sizes, front, passes, by_place (head_length (take most_head_bytes front)) refl reads)
   where
-    by_place : (o : Option ℕ) → head_length (take most_head_bytes front) ≡ o → FinalReadsByHeadLength max h e front o (Spelled given rest) → ResponseLines front given
+    by_place : (o : Option ℕ) → head_length (take most_head_bytes front) ≡ o → FinalResponseReadsByHeadLength max h e front o (Spelled given rest) → LinesAfterStatusLine front given
     by_place None place is = absurd (no_response e (nat_lt most_head_bytes (length front)) given rest is)
     by_place (Some n) place (Err f, judged, final, is) = absurd cc
     by_place (Some n) place (Ok head, judged, final, is) =

@@ -12,7 +12,7 @@ use Rattle.httparse.proofs.PieceLemmas.{IsDeterministic, Bytes_deterministic, pr
 use Rattle.httparse.proofs.GrammarLemmas.{request_tree, request_head, request_pieces, request_from_pieces, request_unique, response_head, response_pieces, response_from_pieces, response_unique}
 use Rattle.hx_framing.specs.HeadEnd.{most_field_lines}
 use Rattle.hx_framing.specs.Head.{IsHeadOfRequest}
-use Rattle.hx_framing.specs.StatusHead.{IsStatusHead}
+use Rattle.hx_framing.specs.StatusHead.{IsWholeResponseHead}
 
 -- a text begins with the piece, or it doesn't
 abbrev BeginsOrNot : {A : Type 0} → Piece A → List ℕ → Type 0
@@ -343,7 +343,7 @@ request_decided bytes = by_tree (both RequestStart Section RequestStart_determin
     by_tree (inr none) = inr (λ k is. none (request_tree k, [], request_pieces bytes k [] is.0))
 
 abbrev pub StatusHeadOrNot : List ℕ → Type 0
-StatusHeadOrNot bytes = ((h : ResponseHead) × IsStatusHead bytes h) ⊎ ((h : ResponseHead) → IsStatusHead bytes h → ⊥)
+StatusHeadOrNot bytes = ((h : ResponseHead) × IsWholeResponseHead bytes h) ⊎ ((h : ResponseHead) → IsWholeResponseHead bytes h → ⊥)
 
 pub response_decided : (bytes : List ℕ) → StatusHeadOrNot bytes
 response_decided bytes = by_tree (both ResponseStart Section ResponseStart_deterministic response_start_decided section_decided bytes)

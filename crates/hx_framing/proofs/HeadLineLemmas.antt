@@ -15,14 +15,14 @@ use Rattle.httparse.proofs.PieceLemmas.{print_field-append, token_is_no_newline,
 use Rattle.httparse.proofs.TrimLemmas.{AllPass-trim_ows}
 use Rattle.hx_fields.specs.Line.{Field as Line}
 use Rattle.hx_fields.specs.Tokens as tokens
-use Rattle.hx_framing.specs.HeadEnd.{empty_lines_from, empty_lines_length}
+use Rattle.hx_framing.specs.HeadEnd.{empty_lines_end_from, empty_lines_length}
 use Rattle.hx_framing.specs.Version.{without_trailing_cr}
 use Rattle.hx_framing.specs.declared.heads.request_head.Head.{Head}
 use Rattle.hx_framing.specs.declared.heads.status_head.StatusHead.{StatusHead}
 use Rattle.hx_framing.specs.Head.{IsHeadOfRequest, RequestHeadIsJudged, field_of_parsed_line}
 use Rattle.hx_framing.specs.StatusHead as status
-use Rattle.hx_framing.specs.StatusHead.{IsStatusHead}
-use Rattle.hx_framing.specs.HeadLines.{is_colon, is_line_end, name_before_colon, is_field_line, is_empty_line, HeadHasFieldLines, is_wellformed_field}
+use Rattle.hx_framing.specs.StatusHead.{IsWholeResponseHead}
+use Rattle.hx_framing.specs.HeadLines.{is_colon, is_line_end, name_before_colon, is_field_line, is_empty_line, HeadHasFieldLinesOfNames, is_wellformed_field}
 
 -- ---- bytes
 
@@ -187,28 +187,28 @@ empty_end lf = refl
 -- ---- empty lines in front
 
 pub blank_is : (ends : List LineEnd) (x : ℕ) (rest : List ℕ) (at : ℕ) → is_newline x ≡ false
-    → empty_lines_from at (print_blank ends ++ x ∷ rest) ≡ at + length (print_blank ends)
+    → empty_lines_end_from at (print_blank ends ++ x ∷ rest) ≡ at + length (print_blank ends)
 blank_is [] x [] at other =
     let parts = or_parts (x == 13) (x == 10) other in ap (λ t. cond t (at + 1) at) parts.1 ∙ omega arith
 blank_is [] x (y ∷ rest) at other =
     let parts = or_parts (x == 13) (x == 10) other in
     let cr : Bool = x == 13 in
-    ap (λ t. cond t (empty_lines_from (at + 1) (y ∷ rest)) (cond (cr && (y == 10)) (empty_lines_from (at + 2) rest) at)) parts.1
-    ∙ ap (λ t. cond (t && (y == 10)) (empty_lines_from (at + 2) rest) at) parts.0 ∙ omega arith
+    ap (λ t. cond t (empty_lines_end_from (at + 1) (y ∷ rest)) (cond (cr && (y == 10)) (empty_lines_end_from (at + 2) rest) at)) parts.1
+    ∙ ap (λ t. cond (t && (y == 10)) (empty_lines_end_from (at + 2) rest) at) parts.0 ∙ omega arith
 blank_is (crlf ∷ ends) x rest at other = blank_is ends x rest (at + 2) other ∙ omega arith
 blank_is (lf ∷ ends) x rest at other = by_rest (print_blank ends ++ x ∷ rest) refl (blank_is ends x rest (at + 1) other) ∙ omega arith
   where
-    by_rest : (text : List ℕ) → print_blank ends ++ x ∷ rest ≡ text → empty_lines_from (at + 1) (print_blank ends ++ x ∷ rest) ≡ at + 1 + length (print_blank ends)
-        → empty_lines_from at (10 ∷ (print_blank ends ++ x ∷ rest)) ≡ at + 1 + length (print_blank ends)
-    by_rest [] is later = ap (λ t. empty_lines_from at (10 ∷ t)) is ∙ ap (empty_lines_from (at + 1)) (sym is) ∙ later
-    by_rest (c ∷ text) is later = ap (λ t. empty_lines_from at (10 ∷ t)) is ∙ ap (empty_lines_from (at + 1)) (sym is) ∙ later
+    by_rest : (text : List ℕ) → print_blank ends ++ x ∷ rest ≡ text → empty_lines_end_from (at + 1) (print_blank ends ++ x ∷ rest) ≡ at + 1 + length (print_blank ends)
+        → empty_lines_end_from at (10 ∷ (print_blank ends ++ x ∷ rest)) ≡ at + 1 + length (print_blank ends)
+    by_rest [] is later = ap (λ t. empty_lines_end_from at (10 ∷ t)) is ∙ ap (empty_lines_end_from (at + 1)) (sym is) ∙ later
+    by_rest (c ∷ text) is later = ap (λ t. empty_lines_end_from at (10 ∷ t)) is ∙ ap (empty_lines_end_from (at + 1)) (sym is) ∙ later
 
 -- ---- whole heads
 
 -- a start line behind empty lines, and a section
 whole : (bytes : List ℕ) (ends : List LineEnd) (x : ℕ) (start : List ℕ) (end : LineEnd) (fields : List Field) (last : LineEnd)
     → is_newline x ≡ false → All (IsNo 10) (x ∷ start) → All IsField fields
-    → bytes ≡ print_blank ends ++ ((x ∷ start) ++ (print_end end ++ print_section fields last)) → HeadHasFieldLines bytes (map field_of_parsed_line fields)
+    → bytes ≡ print_blank ends ++ ((x ∷ start) ++ (print_end end ++ print_section fields last)) → HeadHasFieldLinesOfNames bytes (map field_of_parsed_line fields)
 whole bytes ends x start end fields last other none fine is = record {
   lines = map text_of fields;
   last = with_return [] last;
@@ -234,7 +234,7 @@ version minor small =
     All-append (IsNo 10) (codes "HTTP/1.") ((48 + minor) ∷ []) name_of_version
     (All-cons (IsNo 10) (48 + minor) [] (ne_eqb (48 + minor) 10 (λ e. omega arith)) (All-nil (IsNo 10)))
 
-request_lines : (bytes : List ℕ) (h : RequestHead) → IsHeadOfRequest bytes h → HeadHasFieldLines bytes (map field_of_parsed_line h.fields)
+request_lines : (bytes : List ℕ) (h : RequestHead) → IsHeadOfRequest bytes h → HeadHasFieldLinesOfNames bytes (map field_of_parsed_line h.fields)
 request_lines bytes h head = by_method h.method head.0.0.method (head.0.1 ∙ print_request-append h [])
   where
     regroup : (m t v e s : List ℕ) → m ++ 32 ∷ (t ++ 32 ∷ (v ++ (e ++ (s ++ [])))) ≡ (m ++ 32 ∷ (t ++ 32 ∷ v)) ++ (e ++ s)
@@ -243,7 +243,7 @@ request_lines bytes h head = by_method h.method head.0.0.method (head.0.1 ∙ pr
     by_method : (method : List ℕ) → IsToken method
         → bytes ≡ print_blank h.blank ++ (method ++ 32 ∷ (h.target ++ 32 ∷ (print_version h.minor
         ++ (print_end h.line_end ++ (print_section h.fields h.last ++ [])))))
-        → HeadHasFieldLines bytes (map field_of_parsed_line h.fields)
+        → HeadHasFieldLinesOfNames bytes (map field_of_parsed_line h.fields)
     by_method [] word is = absurd (omega (arith, word.0))
     by_method (x ∷ method) word is =
         let name = each is_token_byte (IsNo 10) (x ∷ method) (λ b token. (token_byte b token).1) word.1 in
@@ -257,7 +257,7 @@ request_lines bytes h head = by_method h.method head.0.0.method (head.0.1 ∙ pr
         (token_is_no_newline x (All-head (λ b. is_token_byte b ≡ true) x method word.1)) none head.0.0.fields
         (is ∙ ap (λ t. print_blank h.blank ++ t) (regroup (x ∷ method) h.target (print_version h.minor) (print_end h.line_end) (print_section h.fields h.last)))
 
-response_lines : (bytes : List ℕ) (h : ResponseHead) → IsStatusHead bytes h → HeadHasFieldLines bytes (map field_of_parsed_line h.fields)
+response_lines : (bytes : List ℕ) (h : ResponseHead) → IsWholeResponseHead bytes h → HeadHasFieldLinesOfNames bytes (map field_of_parsed_line h.fields)
 response_lines bytes h head =
     let reason = by_reason h.reason head.0.0.reason in
     let digits = each is_ascii_digit (IsNo 10) h.digits digit_byte head.0.0.digits.1 in
@@ -291,17 +291,17 @@ sound (f ∷ fields) fine =
 
 -- ---- judged heads
 
-pub request_has_lines : (bytes : List ℕ) (head : Head) → RequestHeadIsJudged bytes (Ok head) → HeadHasFieldLines bytes head.fields
+pub request_has_lines : (bytes : List ℕ) (head : Head) → RequestHeadIsJudged bytes (Ok head) → HeadHasFieldLinesOfNames bytes head.fields
 request_has_lines bytes head judged =
-    subst (λ (k : Head). HeadHasFieldLines bytes k.fields) (sym judged.2) (request_lines bytes judged.0 judged.1)
+    subst (λ (k : Head). HeadHasFieldLinesOfNames bytes k.fields) (sym judged.2) (request_lines bytes judged.0 judged.1)
 
 pub request_is_sound : (bytes : List ℕ) (head : Head) → RequestHeadIsJudged bytes (Ok head) → list_all is_wellformed_field head.fields ≡ true
 request_is_sound bytes head judged =
     ap (λ (k : Head). list_all is_wellformed_field k.fields) judged.2 ∙ sound judged.0.fields judged.1.0.0.fields
 
-pub response_has_lines : (bytes : List ℕ) (head : StatusHead) → status.ResponseHeadIsJudged bytes (Ok head) → HeadHasFieldLines bytes head.fields
+pub response_has_lines : (bytes : List ℕ) (head : StatusHead) → status.ResponseHeadIsJudged bytes (Ok head) → HeadHasFieldLinesOfNames bytes head.fields
 response_has_lines bytes head judged =
-    subst (λ (k : StatusHead). HeadHasFieldLines bytes k.fields) (sym judged.2) (response_lines bytes judged.0 judged.1)
+    subst (λ (k : StatusHead). HeadHasFieldLinesOfNames bytes k.fields) (sym judged.2) (response_lines bytes judged.0 judged.1)
 
 pub response_is_sound : (bytes : List ℕ) (head : StatusHead) → status.ResponseHeadIsJudged bytes (Ok head) → list_all is_wellformed_field head.fields ≡ true
 response_is_sound bytes head judged =

@@ -5,7 +5,7 @@ use Rattle.std.proofs.lemmas.List.{append-nil, drop-append-le, drop-drop, take-a
 use Rattle.std.proofs.Math.Seq.{take-append-add}
 use Rattle.hx_framing.specs.declared.heads.head_end.HeadSearch.{HeadSearch}
 use Rattle.hx_framing.specs.declared.heads.head_end.HeadSearchResult.TheVariants as searched
-use Rattle.hx_framing.specs.HeadEnd.{empty_lines_from, empty_lines_length, head_end_at, head_end_from, head_length, most_head_bytes, IsUnfinishedHead}
+use Rattle.hx_framing.specs.HeadEnd.{empty_lines_end_from, empty_lines_length, head_end_size_at_front, head_end_from, head_length, most_head_bytes, IsUnfinishedHead}
 use Rattle.hx_framing.specs.Searching.{NoHeadEndsBeforeSearch, IsHeadSearchResult}
 use Rattle.hx_framing.proofs.HeadEnds.{empty_lines_stable, empty_line_ends}
 
@@ -14,11 +14,11 @@ use Rattle.hx_framing.proofs.HeadEnds.{empty_lines_stable, empty_line_ends}
 -- the empty lines go on from where they end
 pub record Goes (u more : List ℕ) (at : ℕ) : Type 0 where
   pub count : ℕ
-  pub end : empty_lines_from at u ≡ at + count
-  pub on : empty_lines_from at (u ++ more) ≡ empty_lines_from (at + count) (drop count (u ++ more))
+  pub end : empty_lines_end_from at u ≡ at + count
+  pub on : empty_lines_end_from at (u ++ more) ≡ empty_lines_end_from (at + count) (drop count (u ++ more))
 
-stays : (u more : List ℕ) (at : ℕ) → empty_lines_from at u ≡ at → Goes u more at
-stays u more at here = record { count = 0; end = here ∙ omega arith; on = ap (λ k. empty_lines_from k (u ++ more)) (omega arith) }
+stays : (u more : List ℕ) (at : ℕ) → empty_lines_end_from at u ≡ at → Goes u more at
+stays u more at here = record { count = 0; end = here ∙ omega arith; on = ap (λ k. empty_lines_end_from k (u ++ more)) (omega arith) }
 
 empty_lines_on : (u more : List ℕ) (at : ℕ) → Goes u more at
 empty_lines_on [] more at = stays [] more at refl
@@ -38,12 +38,12 @@ empty_lines_on (b ∷ c ∷ us) more at = by_test (empty_lines_on (c ∷ us) mor
     by_test one two true p s q = record {
       count = suc one.count;
       end = rw p (one.end ∙ omega arith);
-      on = rw p (one.on ∙ ap (λ k. empty_lines_from k (drop one.count ((c ∷ us) ++ more))) (omega arith));
+      on = rw p (one.on ∙ ap (λ k. empty_lines_end_from k (drop one.count ((c ∷ us) ++ more))) (omega arith));
     }
     by_test one two false p true q = record {
       count = suc (suc two.count);
       end = rw (p, q) (two.end ∙ omega arith);
-      on = rw (p, q) (two.on ∙ ap (λ k. empty_lines_from k (drop two.count (us ++ more))) (omega arith));
+      on = rw (p, q) (two.on ∙ ap (λ k. empty_lines_end_from k (drop two.count (us ++ more))) (omega arith));
     }
     by_test one two false p false q = stays (b ∷ c ∷ us) more at (rw (p, q) refl)
 
@@ -67,12 +67,12 @@ empty_on (b ∷ []) more at k long none = absurd (omega arith)
 empty_on (b ∷ c ∷ []) more at zero long none = ap (λ j. head_end_from j (b ∷ c ∷ more)) (omega arith)
 empty_on (b ∷ c ∷ []) more at (suc k) long none = absurd (omega arith)
 empty_on (b ∷ c ∷ d ∷ us) more at zero long none = absurd (omega arith)
-empty_on (b ∷ c ∷ d ∷ us) more at (suc k) long none = by_test (head_end_at (b ∷ c ∷ d ∷ us) == 0) (empty_on (c ∷ d ∷ us) more (at + 1) k (omega arith)) none
+empty_on (b ∷ c ∷ d ∷ us) more at (suc k) long none = by_test (head_end_size_at_front (b ∷ c ∷ d ∷ us) == 0) (empty_on (c ∷ d ∷ us) more (at + 1) k (omega arith)) none
   where
     by_test : (t : Bool)
         → (head_end_from (at + 1) (c ∷ d ∷ us) ≡ None → head_end_from (at + 1) ((c ∷ d ∷ us) ++ more) ≡ head_end_from (at + 1 + k) (drop k ((c ∷ d ∷ us) ++ more)))
-        → cond t (head_end_from (at + 1) (c ∷ d ∷ us)) (Some (at + head_end_at (b ∷ c ∷ d ∷ us))) ≡ None
-        → cond t (head_end_from (at + 1) ((c ∷ d ∷ us) ++ more)) (Some (at + head_end_at (b ∷ c ∷ d ∷ us))) ≡ head_end_from (at + suc k) (drop k ((c ∷ d ∷ us) ++ more))
+        → cond t (head_end_from (at + 1) (c ∷ d ∷ us)) (Some (at + head_end_size_at_front (b ∷ c ∷ d ∷ us))) ≡ None
+        → cond t (head_end_from (at + 1) ((c ∷ d ∷ us) ++ more)) (Some (at + head_end_size_at_front (b ∷ c ∷ d ∷ us))) ≡ head_end_from (at + suc k) (drop k ((c ∷ d ∷ us) ++ more))
     by_test true later h = later h ∙ ap (λ j. head_end_from j (drop k ((c ∷ d ∷ us) ++ more))) (omega arith)
     by_test false later h = absurd cc
 
@@ -91,7 +91,7 @@ reaches_start bytes = record {
 reaches_append : (bytes w : List ℕ) (s : HeadSearch) → NoHeadEndsBeforeSearch bytes s → NoHeadEndsBeforeSearch (bytes ++ w) s
 reaches_append bytes w s r = record {
   within = omega (arith, r.within, length_append);
-  empty_lines = λ e more. ap empty_lines_length (append_assoc bytes w more) ∙ r.empty_lines e (w ++ more) ∙ ap (λ u. empty_lines_from s.at (drop s.at u)) (sym (append_assoc bytes w more));
+  empty_lines = λ e more. ap empty_lines_length (append_assoc bytes w more) ∙ r.empty_lines e (w ++ more) ∙ ap (λ u. empty_lines_end_from s.at (drop s.at u)) (sym (append_assoc bytes w more));
   room = λ e. omega (arith, r.room e, length_append);
   lines = λ e more. ap head_length (append_assoc bytes w more) ∙ r.lines e (w ++ more) ∙ ap (λ u. head_end_from s.at (drop s.at u)) (sym (append_assoc bytes w more));
 }
@@ -122,7 +122,7 @@ searched_empty_lines bytes at is within short = (
         let goes : Goes bytes more 0 = empty_lines_on bytes more 0 in
         let here : 0 + goes.count ≡ at = sym (is ∙ goes.end) in
         let count : goes.count ≡ at = omega arith in
-        goes.on ∙ ap (λ (k : ℕ). empty_lines_from k (drop goes.count (bytes ++ more))) here ∙ ap (λ (k : ℕ). empty_lines_from at (drop k (bytes ++ more))) count;
+        goes.on ∙ ap (λ (k : ℕ). empty_lines_end_from k (drop goes.count (bytes ++ more))) here ∙ ap (λ (k : ℕ). empty_lines_end_from at (drop k (bytes ++ more))) count;
     room = λ e. absurd cc;
     lines = λ e. absurd cc;
   },
@@ -156,9 +156,9 @@ searched_lines bytes at to on room end none = (
 )
 
 -- the empty lines in front, from where the search stood
-pub empty_lines_reached : (bytes : List ℕ) (s : HeadSearch) (at : ℕ) → NoHeadEndsBeforeSearch bytes s → s.is_past_empty_lines ≡ false → at ≡ empty_lines_from s.at (drop s.at bytes) → at ≡ empty_lines_length bytes
+pub empty_lines_reached : (bytes : List ℕ) (s : HeadSearch) (at : ℕ) → NoHeadEndsBeforeSearch bytes s → s.is_past_empty_lines ≡ false → at ≡ empty_lines_end_from s.at (drop s.at bytes) → at ≡ empty_lines_length bytes
 empty_lines_reached bytes s at r outside is =
-    is ∙ ap (λ u. empty_lines_from s.at (drop s.at u)) (sym (append-nil bytes)) ∙ sym (r.empty_lines outside []) ∙ ap empty_lines_length (append-nil bytes)
+    is ∙ ap (λ u. empty_lines_end_from s.at (drop s.at u)) (sym (append-nil bytes)) ∙ sym (r.empty_lines outside []) ∙ ap empty_lines_length (append-nil bytes)
 
 -- a head takes some bytes, and no more than there are
 pub head_some : (u : List ℕ) (n : ℕ) → head_length u ≡ Some n → 0 < n

@@ -8,7 +8,7 @@ use Rattle.std.proofs.lemmas.List.Folds.{list_all-append, list_all-map}
 use Rattle.hx_fields.specs.Line.{Field}
 use Rattle.hx_fields.specs.Names.{joined_lists, is_nonempty}
 use Rattle.hx_fields.specs.FieldLines.{is_named, has_field, values_of}
-use Rattle.hx_framing.specs.ContentLength.{content_length_name, texts_between_commas, is_digits, is_text_of_number, is_text_of_same_number, without_leading_zeros, number_of_equal_texts, listed_lengths, announced_length}
+use Rattle.hx_framing.specs.ContentLength.{content_length_name, texts_between_commas, is_digits, is_text_of_number, is_text_of_same_number, without_leading_zeros, number_spelled_by_all, listed_lengths, announced_length}
 use Rattle.hx_framing.proofs.NumberLemmas.{same_number, significant_value}
 
 -- a test of all the pieces goes line by line
@@ -49,7 +49,7 @@ are_numbers text (piece ∷ pieces) digits =
     ∙ both_tests (is_digits piece) (is_text_of_number (digits_value 10 text) piece) (list_all is_digits pieces) (list_all (is_text_of_number (digits_value 10 text)) pieces)
 
 one_number-all : (text : List ℕ) (texts : List (List ℕ)) → is_digits text ≡ true
-    → number_of_equal_texts (text ∷ texts) ≡ cond (list_all (is_text_of_same_number (without_leading_zeros text)) (text ∷ texts)) (Some (digits_value 10 text)) None
+    → number_spelled_by_all (text ∷ texts) ≡ cond (list_all (is_text_of_same_number (without_leading_zeros text)) (text ∷ texts)) (Some (digits_value 10 text)) None
 one_number-all text texts digits =
     let same : is_text_of_number (digits_value 10 text) text ≡ true = eq-eqb (digits_value 10 text) (digits_value 10 text) refl in
     sym (ap (λ t. cond t (Some (digits_value 10 text)) None)
@@ -102,14 +102,14 @@ module _ (fields : List Field) (value text : List ℕ)
       → announced_length fields ≡ cond (list_all (λ (line : Field). list_all (is_text_of_same_number (without_leading_zeros text)) (texts_between_commas line.value)) (filter (is_named content_length_name) fields)) (Some (digits_value 10 (without_leading_zeros text))) None
   shown_by_digits digits =
       let b = begins fields value text first front in
-      ap number_of_equal_texts b.are ∙ one_number-all text b.texts digits
+      ap number_spelled_by_all b.are ∙ one_number-all text b.texts digits
       ∙ ap (λ t. cond t (Some (digits_value 10 text)) None) (ap (list_all (is_text_of_same_number (without_leading_zeros text))) (sym b.are) ∙ by_lines (is_text_of_same_number (without_leading_zeros text)) fields)
       ∙ ap (λ n. cond (list_all (λ (line : Field). list_all (is_text_of_same_number (without_leading_zeros text)) (texts_between_commas line.value)) (filter (is_named content_length_name) fields)) (Some n) None) (sym (significant_value text))
 
   pub shown_without_digits : is_digits text ≡ false → announced_length fields ≡ None
   shown_without_digits other =
       let b = begins fields value text first front in
-      ap number_of_equal_texts b.are
+      ap number_spelled_by_all b.are
       ∙ ap (λ t. cond ((t && list_all is_digits b.texts) && list_all (is_text_of_number (digits_value 10 text)) b.texts) (Some (digits_value 10 text)) None) other
 
 -- each piece of these lines is the number of these digits
@@ -129,7 +129,7 @@ shown_by_test fields lines value text digits all first front test digits_are lin
 pub none_shown : (fields : List Field) → slice_get (values_of fields content_length_name) 0 ≡ None → announced_length fields ≡ None
 none_shown fields none = by_values (values_of fields content_length_name) none
   where
-    by_values : (values : List (List ℕ)) → slice_get values 0 ≡ None → number_of_equal_texts (joined_lists (map texts_between_commas values)) ≡ None
+    by_values : (values : List (List ℕ)) → slice_get values 0 ≡ None → number_spelled_by_all (joined_lists (map texts_between_commas values)) ≡ None
     by_values [] e = refl
     by_values (v ∷ values) e = absurd cc
 

@@ -12,11 +12,11 @@ use Rattle.hx_framing.specs.declared.contents.content.Content.{Content}
 use Rattle.hx_framing.specs.declared.contents.content.Content.TheVariants as content
 use Rattle.hx_fields.specs.Line.{Field}
 use Rattle.hx_framing.specs.Body.{ContentParseResult, Short, Bad, Whole}
-use Rattle.hx_framing.specs.SizeLine.{chunk_size_of_line, is_chunk_size_text, without_last_byte, ends_in_cr, number_at_most, chunk_size_of}
+use Rattle.hx_framing.specs.SizeLine.{chunk_size_of_line, is_chunk_size_text, without_last_byte, ends_in_cr, number_if_at_most, chunk_size_of}
 use Rattle.hx_framing.specs.ChunkDecoder.{ChunkDecoder}
-use Rattle.hx_framing.specs.Chunks.{ChunkStep, Go, Stop, Fail, step_after_size_line, step_in_phase, chunk_step, step_after_trailer_line, content_after_step, content_from_decoder, decoder_at_start}
-use Rattle.hx_framing.specs.Contents.{content_by_framing, content_resumed}
-use Rattle.hx_framing.specs.Lengths.{framing_of_lengths, has_both_length_fields, has_bad_length, has_coding_other_than_chunked, is_too_large, framing_with_expectation, expects_other_than_100_continue, expectation_of_head, framing_by_request_fields, request_framing_of, framing_if_accepted_status, is_accepted_status, framing_of_response, response_has_no_content}
+use Rattle.hx_framing.specs.Chunks.{ChunkStep, Go, Stop, Fail, step_after_size_line, step_in_phase, chunk_step, step_after_trailer_line, content_after_step, chunks_decoded_from_state, decoder_at_start}
+use Rattle.hx_framing.specs.Contents.{content_by_framing, result_of_resumed_content}
+use Rattle.hx_framing.specs.Lengths.{framing_by_length_fields, has_both_length_fields, has_bad_length_fields, has_coding_other_than_chunked, is_too_large, framing_with_expectation, expects_other_than_100_continue, expectation_of_head, framing_by_request_fields, request_framing_of, framing_if_accepted_status, is_accepted_status, framing_of_response, response_has_no_content}
 use Rattle.hx_framing.specs.Reading.{reading_of_content}
 use Rattle.hx_framing.specs.Progress.{is_head_or_version_fault, out_of_memory_may_replace, next_answer_of_reading}
 
@@ -45,7 +45,7 @@ capped_or (Some n) = tt
 
 size_behind : (line : List ℕ) (left : ℕ) → IsBehindHead (chunk_size_of_line line left)
 size_behind line left =
-    judged_cond (ends_in_cr line && is_chunk_size_text (without_last_byte line)) (ok_or (number_at_most left (chunk_size_of (without_last_byte line))) fault.TooLarge) (Err fault.Chunk) (capped_or (number_at_most left (chunk_size_of (without_last_byte line)))) refl
+    judged_cond (ends_in_cr line && is_chunk_size_text (without_last_byte line)) (ok_or (number_if_at_most left (chunk_size_of (without_last_byte line))) fault.TooLarge) (Err fault.Chunk) (capped_or (number_if_at_most left (chunk_size_of (without_last_byte line)))) refl
 
 sized_fine : (s : ChunkDecoder) (r : Result ℕ FrameFault) → IsBehindHead r → IsFine (step_after_size_line s r)
 sized_fine s (Err f) x = x
@@ -74,9 +74,9 @@ follow_behind (Go s) run rest x later = later s
 follow_behind (Stop c) run rest x later = tt
 follow_behind (Fail f) run rest x later = x
 
-chunks_behind : (bytes : List ℕ) (s : ChunkDecoder) → IsBodyBehind (content_from_decoder bytes s)
+chunks_behind : (bytes : List ℕ) (s : ChunkDecoder) → IsBodyBehind (chunks_decoded_from_state bytes s)
 chunks_behind [] s = tt
-chunks_behind (b ∷ bytes) s = follow_behind (chunk_step s b) (content_from_decoder bytes) bytes (step_fine s.phase s b) (chunks_behind bytes)
+chunks_behind (b ∷ bytes) s = follow_behind (chunk_step s b) (chunks_decoded_from_state bytes) bytes (step_fine s.phase s b) (chunks_behind bytes)
 
 pub body_behind : (max : ℕ) (shown : Framing) (e : Bool) (bytes : List ℕ) → IsBodyBehind (content_by_framing max shown e bytes)
 body_behind max framing.Nothing e bytes = tt
@@ -84,7 +84,7 @@ body_behind max (framing.Announced n) e bytes = body_cond (nat_lt (length bytes)
 body_behind max framing.Chunked e bytes = chunks_behind bytes (decoder_at_start max)
 body_behind max framing.UntilClose e bytes = body_cond (nat_lt max (length bytes)) _ _ refl (body_cond e _ _ tt tt)
 
-pub rest_behind : (c : Content) (e : Bool) (bytes : List ℕ) → IsBodyBehind (content_resumed c e bytes)
+pub rest_behind : (c : Content) (e : Bool) (bytes : List ℕ) → IsBodyBehind (result_of_resumed_content c e bytes)
 rest_behind content.Nothing e bytes = tt
 rest_behind (content.Announced s) e bytes = body_cond (nat_lt (length bytes) s.left) _ _ tt tt
 rest_behind (content.Chunked s) e bytes = chunks_behind bytes s
@@ -92,9 +92,9 @@ rest_behind (content.UntilClose s) e bytes = body_cond (nat_lt s.left (length by
 
 -- ---- and so what is judged of a head's fields
 
-lengths_behind : (max minor : ℕ) (neither : Framing) (endless : Bool) (fields : List Field) → IsBehindHead (framing_of_lengths max minor neither endless fields)
+lengths_behind : (max minor : ℕ) (neither : Framing) (endless : Bool) (fields : List Field) → IsBehindHead (framing_by_length_fields max minor neither endless fields)
 lengths_behind max minor neither endless fields =
-    judged_cond (has_both_length_fields fields) _ _ refl (judged_cond (has_bad_length minor fields || endless) _ _ refl
+    judged_cond (has_both_length_fields fields) _ _ refl (judged_cond (has_bad_length_fields minor fields || endless) _ _ refl
     (judged_cond (has_coding_other_than_chunked fields) _ _ refl (judged_cond (is_too_large max fields) _ _ refl tt)))
 
 expected_behind : (expected : Option (List ℕ)) (r : Result Framing FrameFault) → IsBehindHead r → IsBehindHead (framing_with_expectation expected r)

@@ -8,7 +8,7 @@ use Rattle.hx_framing.specs.declared.frame_fault.FrameFault.TheVariants as fault
 use Rattle.hx_framing.specs.declared.contents.content.ContentProgress.TheVariants as content_progress
 use Rattle.hx_framing.specs.Body.{ContentParseResult, Short, Bad, Whole}
 use Rattle.hx_framing.specs.Contents.{ContentAdvances, announced_content_resumed, content_until_close_resumed}
-use Rattle.hx_framing.specs.PlainContent.{PlainContent, plain_content_with}
+use Rattle.hx_framing.specs.PlainContent.{PlainContent, plain_content_after_bytes}
 
 -- behind some bytes the test is that of the others
 lt_behind : (bytes more : List ℕ) (left : ℕ) → length bytes ≤ left → nat_lt (length (bytes ++ more)) left ≡ nat_lt (length more) (left - length bytes)
@@ -25,7 +25,7 @@ above_behind bytes more left within = by_test (nat_lt (left - length bytes) (len
     by_test true p = lt-ltb _ _ (omega (arith, ltb-true (left - length bytes) (length more) p, length-append bytes more))
     by_test false p = le-ltb _ _ (omega (arith, ltb-false (left - length bytes) (length more) p, length-append bytes more))
 
-announced_behind : (s : PlainContent) (bytes more : List ℕ) → length bytes ≤ s.left → announced_content_resumed s (bytes ++ more) ≡ announced_content_resumed (plain_content_with s bytes) more
+announced_behind : (s : PlainContent) (bytes more : List ℕ) → length bytes ≤ s.left → announced_content_resumed s (bytes ++ more) ≡ announced_content_resumed (plain_content_after_bytes s bytes) more
 announced_behind s bytes more within =
     let k = s.left - length bytes in
     let all : s.left ≡ length bytes + k = omega arith in
@@ -36,7 +36,7 @@ announced_behind s bytes more within =
     (ap (λ (c : List ℕ). s.content ++ c) taken ∙ sym (append_assoc s.content bytes (take k more)))
     ∙ ap (λ (r : List ℕ). cond {A = ContentParseResult} (nat_lt (length more) k) Short (Whole (Some ((s.content ++ bytes) ++ take k more)) r)) dropped
 
-closed_behind : (s : PlainContent) (e : Bool) (bytes more : List ℕ) → length bytes ≤ s.left → content_until_close_resumed s e (bytes ++ more) ≡ content_until_close_resumed (plain_content_with s bytes) e more
+closed_behind : (s : PlainContent) (e : Bool) (bytes more : List ℕ) → length bytes ≤ s.left → content_until_close_resumed s e (bytes ++ more) ≡ content_until_close_resumed (plain_content_after_bytes s bytes) e more
 closed_behind s e bytes more within =
     ap (λ (t : Bool). cond {A = ContentParseResult} t (Bad fault.TooLarge) (cond {A = ContentParseResult} e (Whole (Some (s.content ++ (bytes ++ more))) []) Short)) (above_behind bytes more s.left within)
     ∙ ap (λ (c : List ℕ). cond {A = ContentParseResult} (nat_lt (s.left - length bytes) (length more)) (Bad fault.TooLarge) (cond {A = ContentParseResult} e (Whole (Some c) []) Short))
@@ -47,19 +47,19 @@ closed_behind s e bytes more within =
 all_taken : (bytes run : List ℕ) (n : ℕ) → run ≡ take n bytes → length bytes ≤ n → run ≡ bytes
 all_taken bytes run n is long = is ∙ take_all n bytes long
 
-pub announced_more : (e : Bool) (s new : PlainContent) (bytes run : List ℕ) (n : ℕ) → new ≡ plain_content_with s run → run ≡ take n bytes → n ≡ length bytes → n < s.left
+pub announced_more : (e : Bool) (s new : PlainContent) (bytes run : List ℕ) (n : ℕ) → new ≡ plain_content_after_bytes s run → run ≡ take n bytes → n ≡ length bytes → n < s.left
     → ContentAdvances e bytes (content.Announced s) (content_progress.Incomplete n) (content.Announced new)
 announced_more e s new bytes run n is ran all less =
     let whole : run ≡ bytes = all_taken bytes run n ran (omega arith) in
     let none : drop n bytes ≡ [] = drop_all n bytes (omega arith) in (
       omega arith,
       ap (λ (t : Bool). cond {A = ContentParseResult} t Short (Whole (Some (s.content ++ take s.left bytes)) (drop s.left bytes))) (lt-ltb _ _ (omega arith)),
-      λ more d. announced_behind s bytes more (omega arith) ∙ ap (λ (b : List ℕ). announced_content_resumed (plain_content_with s b) more) (sym whole) ∙ ap (λ (p : PlainContent). announced_content_resumed p more) (sym is)
+      λ more d. announced_behind s bytes more (omega arith) ∙ ap (λ (b : List ℕ). announced_content_resumed (plain_content_after_bytes s b) more) (sym whole) ∙ ap (λ (p : PlainContent). announced_content_resumed p more) (sym is)
           ∙ ap (λ (u : List ℕ). announced_content_resumed new (u ++ more)) (sym none),
       none,
     )
 
-pub announced_whole : (e : Bool) (s mid new : PlainContent) (bytes run c : List ℕ) (n : ℕ) → mid ≡ plain_content_with s run → run ≡ take n bytes → n ≡ s.left → n ≤ length bytes
+pub announced_whole : (e : Bool) (s mid new : PlainContent) (bytes run c : List ℕ) (n : ℕ) → mid ≡ plain_content_after_bytes s run → run ≡ take n bytes → n ≡ s.left → n ≤ length bytes
     → c ≡ mid.content → ContentAdvances e bytes (content.Announced s) (content_progress.Whole (Some c) n) (content.Announced new)
 announced_whole e s mid new bytes run c n is ran all within same =
     let given : c ≡ s.content ++ take s.left bytes = same ∙ ap (λ (p : PlainContent). p.content) is ∙ ap (λ (r : List ℕ). s.content ++ r) (ran ∙ ap (λ (k : ℕ). take k bytes) all) in (
@@ -73,7 +73,7 @@ pub closed_bad : (e : Bool) (s new : PlainContent) (bytes : List ℕ) → s.left
 closed_bad e s new bytes over =
     ap (λ (t : Bool). cond {A = ContentParseResult} t (Bad fault.TooLarge) (cond {A = ContentParseResult} e (Whole (Some (s.content ++ bytes)) []) Short)) (lt-ltb _ _ over)
 
-pub closed_more : (e : Bool) (s new : PlainContent) (bytes : List ℕ) → e ≡ false → new ≡ plain_content_with s bytes → length bytes ≤ s.left
+pub closed_more : (e : Bool) (s new : PlainContent) (bytes : List ℕ) → e ≡ false → new ≡ plain_content_after_bytes s bytes → length bytes ≤ s.left
     → ContentAdvances e bytes (content.UntilClose s) (content_progress.Incomplete (length bytes)) (content.UntilClose new)
 closed_more e s new bytes open_still is within =
     let none : drop (length bytes) bytes ≡ [] = drop_all (length bytes) bytes (omega arith) in (
@@ -85,7 +85,7 @@ closed_more e s new bytes open_still is within =
       none,
     )
 
-pub closed_whole : (e : Bool) (s mid new : PlainContent) (bytes c : List ℕ) → e ≡ true → mid ≡ plain_content_with s bytes → length bytes ≤ s.left → c ≡ mid.content
+pub closed_whole : (e : Bool) (s mid new : PlainContent) (bytes c : List ℕ) → e ≡ true → mid ≡ plain_content_after_bytes s bytes → length bytes ≤ s.left → c ≡ mid.content
     → ContentAdvances e bytes (content.UntilClose s) (content_progress.Whole (Some c) (length bytes)) (content.UntilClose new)
 closed_whole e s mid new bytes c ends is within same =
     let none : drop (length bytes) bytes ≡ [] = drop_all (length bytes) bytes (omega arith) in
@@ -98,7 +98,7 @@ closed_whole e s mid new bytes c ends is within same =
     )
 
 -- some are still to come
-pub announced_short : (s new : PlainContent) (bytes run : List ℕ) (n : ℕ) → new ≡ plain_content_with s run → run ≡ take n bytes → n ≡ min s.left (length bytes) → 0 < new.left
+pub announced_short : (s new : PlainContent) (bytes run : List ℕ) (n : ℕ) → new ≡ plain_content_after_bytes s run → run ≡ take n bytes → n ≡ min s.left (length bytes) → 0 < new.left
     → (e : Bool) → ContentAdvances e bytes (content.Announced s) (content_progress.Incomplete n) (content.Announced new)
 announced_short s new bytes run n is ran least some e =
     let left : new.left ≡ s.left - length run = ap (λ (p : PlainContent). p.left) is in

@@ -6,11 +6,11 @@ use Rattle.std.proofs.Math.ListN.{get_or-map}
 use Rattle.std.proofs.lemmas.List.Sums.{prefix_len_passes}
 use Rattle.std.proofs.lemmas.Simd.{mask_l-mod, length-chunk, get_or-chunk, get_or-zip2, leading_from_mask_l, length-zip2}
 use lib.Lanes.{chunk, zip2, mask_l, top}
-use Rattle.hx_framing.specs.HeadEnd.{head_end_at, head_end_from}
+use Rattle.hx_framing.specs.HeadEnd.{head_end_size_at_front, head_end_from}
 use Rattle.hx_framing.proofs.PlaceSteps.{empty_more}
 
 -- so many places at once
-pub quiet_more : (n at : ℕ) (bytes : List ℕ) → at + n ≤ length bytes → ((k : ℕ) → at ≤ k → k < at + n → head_end_at (drop k bytes) ≡ 0)
+pub quiet_more : (n at : ℕ) (bytes : List ℕ) → at + n ≤ length bytes → ((k : ℕ) → at ≤ k → k < at + n → head_end_size_at_front (drop k bytes) ≡ 0)
     → head_end_from (at + n) (drop (at + n) bytes) ≡ head_end_from at (drop at bytes)
 quiet_more zero at bytes within quiet =
     let same : at + 0 ≡ at = omega arith in
@@ -52,7 +52,7 @@ none_here true false true u h = cc
 none_here true false false u h = refl
 
 pub quiet_block : (bytes : List ℕ) (at : ℕ) → at + 17 ≤ length bytes → (z : List ℕ) → z ≡ zip2 bit_and (map is_end (chunk at 16 bytes)) (map is_begin (chunk (at + 1) 16 bytes))
-    → eqb (mask_l (map (top 7) z) % 2 ^ 64) 0 ≡ true → (k : ℕ) → at ≤ k → k < at + 16 → head_end_at (drop k bytes) ≡ 0
+    → eqb (mask_l (map (top 7) z) % 2 ^ 64) 0 ≡ true → (k : ℕ) → at ≤ k → k < at + 16 → head_end_size_at_front (drop k bytes) ≡ 0
 quiet_block bytes at room z lanes none k from to =
     let v = chunk at 16 bytes in
     let w = chunk (at + 1) 16 bytes in

@@ -14,7 +14,7 @@ use Rattle.hx_framing.specs.Contents.{content_by_framing}
 use Rattle.hx_framing.specs.Lengths.{framing_of_response, is_interim, is_accepted_status, response_has_no_content, framing_of_final_response, framing_if_accepted_status, without_length_fields}
 use Rattle.hx_framing.specs.HeadEnd.{head_length, most_head_bytes}
 use Rattle.hx_framing.specs.Reading.{Faulty, Spelled, truncated_or_incomplete, reading_of_content}
-use Rattle.hx_framing.specs.ResponseReading.{FinalReadsByHeadLength, ReadsAs, response_of_head, reading_with_framing, reading_without_response_head}
+use Rattle.hx_framing.specs.ResponseReading.{FinalResponseReadsByHeadLength, ReadsAs, response_of_head, response_reading_by_framing, reading_without_response_head}
 use Rattle.hx_framing.specs.StatusHead.{ResponseHeadIsJudged}
 
 or_true : (t : Bool) → (t || true) ≡ true
@@ -78,7 +78,7 @@ taken_by status (Ok framing) shown is = by_test (is_accepted_status status) is
     by_test false h = absurd cc
 
 of_framing : (max : ℕ) (h e : Bool) (head : StatusHead) (text bytes : List ℕ) (judged : Result Framing FrameFault) (r : Response) (rest : List ℕ)
-    → framing_of_response max h head ≡ judged → ResponseHeadIsJudged text (Ok head) → is_interim head.status ≡ false → Spelled r rest ≡ reading_with_framing max h e head bytes judged → IsMade h r
+    → framing_of_response max h head ≡ judged → ResponseHeadIsJudged text (Ok head) → is_interim head.status ≡ false → Spelled r rest ≡ response_reading_by_framing max h e head bytes judged → IsMade h r
 of_framing max h e head text bytes (Err f) r rest shown judges final is = absurd cc
 of_framing max h e head text bytes (Ok framing) r rest shown judges final is =
     let whole = of_body e h head (content_by_framing max framing e bytes) r rest is in record {
@@ -92,7 +92,7 @@ of_framing max h e head text bytes (Ok framing) r rest shown judges final is =
       without = none_taken max h e head bytes framing whole.content whole.behind shown whole.body_is;
     }
 
-of_head : (max : ℕ) (h e : Bool) (bytes : List ℕ) (o : Option ℕ) (r : Response) (rest : List ℕ) → FinalReadsByHeadLength max h e bytes o (Spelled r rest) → IsMade h r
+of_head : (max : ℕ) (h e : Bool) (bytes : List ℕ) (o : Option ℕ) (r : Response) (rest : List ℕ) → FinalResponseReadsByHeadLength max h e bytes o (Spelled r rest) → IsMade h r
 of_head max h e bytes None r rest is = absurd (no_head e bytes r rest is)
 of_head max h e bytes (Some n) r rest (Err f, judges, final, is) = absurd cc
 of_head max h e bytes (Some n) r rest (Ok head, judges, final, is) = of_framing max h e head (take n bytes) (drop n bytes) (framing_of_response max h head) r rest refl judges final is

@@ -12,12 +12,12 @@ use Rattle.hx_framing.specs.declared.messages.Request.{Request}
 use Rattle.hx_framing.specs.declared.messages.Response.{Response}
 use Rattle.hx_framing.specs.HeadEnd.{head_length, most_head_bytes, most_field_lines}
 use Rattle.hx_framing.specs.Head.{IsHeadOfRequest, head_of_parsed_request}
-use Rattle.hx_framing.specs.StatusHead.{IsStatusHead, status_head_of}
+use Rattle.hx_framing.specs.StatusHead.{IsWholeResponseHead, status_head_of}
 use Rattle.hx_framing.specs.Lengths.{is_interim}
-use Rattle.hx_framing.specs.Reading.{StreamReading}
+use Rattle.hx_framing.specs.Reading.{StreamReadResult}
 use Rattle.hx_framing.specs.RequestReading.{ReadsAs, RequestReadsByHeadLength, reading_behind_request_head, reading_without_request_head}
 use Rattle.hx_framing.specs.ResponseReading as response
-use Rattle.hx_framing.specs.ResponseReading.{FinalResponseReadsAs, FinalReadsByHeadLength, IsInterimHead}
+use Rattle.hx_framing.specs.ResponseReading.{FinalResponseReadsAs, FinalResponseReadsByHeadLength, IsInterimHead}
 
 -- ---- trees
 
@@ -87,7 +87,7 @@ fine_request bytes h fine is =
     } in
     ((parts, is), leb-true (length h.fields) most_field_lines d.1)
 
-fine_response : (bytes : List ℕ) (h : ResponseHead) → is_fine_response h ≡ true → bytes ≡ print_response h ++ [] → IsStatusHead bytes h
+fine_response : (bytes : List ℕ) (h : ResponseHead) → is_fine_response h ≡ true → bytes ≡ print_response h ++ [] → IsWholeResponseHead bytes h
 fine_response bytes h fine is =
     let few = is_fine_section h.fields in
     let reason = list_all is_value_byte (reason_phrase h.reason) in
@@ -110,24 +110,24 @@ fine_response bytes h fine is =
 
 -- ---- what is read
 
-pub reads_request : (max : ℕ) (ended continue_sent : Bool) (bytes : List ℕ) (h : RequestHead) (n : ℕ) (reading : StreamReading Request)
+pub reads_request : (max : ℕ) (ended continue_sent : Bool) (bytes : List ℕ) (h : RequestHead) (n : ℕ) (reading : StreamReadResult Request)
     → head_length (take most_head_bytes bytes) ≡ Some n → is_fine_request h ≡ true → take n bytes ≡ print_request h ++ []
     → reading ≡ reading_behind_request_head max ended continue_sent (drop n bytes) (Ok (head_of_parsed_request h)) → ReadsAs max ended continue_sent bytes reading
 reads_request max ended continue_sent bytes h n reading place fine text is =
     subst (λ (o : Option ℕ). RequestReadsByHeadLength max ended continue_sent bytes o reading) (sym place) (Ok (head_of_parsed_request h), (h, fine_request (take n bytes) h fine text, refl), is)
 
-pub reads_response : (max : ℕ) (to_head ended : Bool) (bytes : List ℕ) (h : ResponseHead) (n : ℕ) (reading : StreamReading Response)
+pub reads_response : (max : ℕ) (to_head ended : Bool) (bytes : List ℕ) (h : ResponseHead) (n : ℕ) (reading : StreamReadResult Response)
     → head_length (take most_head_bytes bytes) ≡ Some n → is_fine_response h ≡ true → take n bytes ≡ print_response h ++ []
     → is_interim (status_head_of h).status ≡ false
     → reading ≡ response.reading_behind_response_head max to_head ended (drop n bytes) (Ok (status_head_of h)) → response.ReadsAs max to_head ended bytes reading
 reads_response max to_head ended bytes h n reading place fine text final is =
     let front : FinalResponseReadsAs max to_head ended bytes reading
-    = subst (λ (o : Option ℕ). FinalReadsByHeadLength max to_head ended bytes o reading) (sym place)
+    = subst (λ (o : Option ℕ). FinalResponseReadsByHeadLength max to_head ended bytes o reading) (sym place)
     (Ok (status_head_of h), (h, fine_response (take n bytes) h fine text, refl), final, is) in
     ([], bytes, refl, front)
 
 -- behind an interim response
-pub passes_interim : (max : ℕ) (to_head ended : Bool) (bytes : List ℕ) (h : ResponseHead) (n : ℕ) (reading : StreamReading Response)
+pub passes_interim : (max : ℕ) (to_head ended : Bool) (bytes : List ℕ) (h : ResponseHead) (n : ℕ) (reading : StreamReadResult Response)
     → head_length (take most_head_bytes bytes) ≡ Some n → is_fine_response h ≡ true → take n bytes ≡ print_response h ++ []
     → is_interim (status_head_of h).status ≡ true
     → response.ReadsAs max to_head ended (drop n bytes) reading → response.ReadsAs max to_head ended bytes reading
@@ -137,13 +137,13 @@ passes_interim max to_head ended bytes h n reading place fine text interim (size
     (n ∷ sizes, rest, (first, passes), front)
 
 -- without a head
-pub reads_no_request : (max : ℕ) (ended continue_sent : Bool) (bytes : List ℕ) (reading : StreamReading Request)
+pub reads_no_request : (max : ℕ) (ended continue_sent : Bool) (bytes : List ℕ) (reading : StreamReadResult Request)
     → head_length (take most_head_bytes bytes) ≡ None → reading ≡ reading_without_request_head ended bytes → ReadsAs max ended continue_sent bytes reading
 reads_no_request max ended continue_sent bytes reading none is = subst (λ (o : Option ℕ). RequestReadsByHeadLength max ended continue_sent bytes o reading) (sym none) is
 
-pub reads_no_response : (max : ℕ) (to_head ended : Bool) (bytes : List ℕ) (reading : StreamReading Response)
+pub reads_no_response : (max : ℕ) (to_head ended : Bool) (bytes : List ℕ) (reading : StreamReadResult Response)
     → head_length (take most_head_bytes bytes) ≡ None → reading ≡ response.reading_without_response_head ended bytes → response.ReadsAs max to_head ended bytes reading
 reads_no_response max to_head ended bytes reading none is =
     let front : FinalResponseReadsAs max to_head ended bytes reading
-    = subst (λ (o : Option ℕ). FinalReadsByHeadLength max to_head ended bytes o reading) (sym none) is in
+    = subst (λ (o : Option ℕ). FinalResponseReadsByHeadLength max to_head ended bytes o reading) (sym none) is in
     ([], bytes, refl, front)

@@ -11,7 +11,7 @@ use Rattle.hx_framing.specs.HeadEnd.{head_length, empty_lines_length}
 use Rattle.hx_framing.specs.Head.{RequestHeadIsJudged}
 use Rattle.hx_framing.specs.Lengths.{request_framing_of}
 use Rattle.hx_framing.specs.Contents.{content_by_framing}
-use Rattle.hx_framing.specs.Reading.{StreamReading, Incomplete, Continue, Over, Spelled, Faulty, truncated_or_incomplete, reading_of_content, ReadingIsSettled, reading_with_more_bytes}
+use Rattle.hx_framing.specs.Reading.{StreamReadResult, Incomplete, Continue, Over, Spelled, Faulty, truncated_or_incomplete, reading_of_content, ReadingIsSettled, reading_with_more_bytes}
 use Rattle.hx_framing.specs.RequestReading.{request_of_head, reading_with_request_body, reading_behind_request_head, RequestReadsByHeadLength, ReadsAs}
 use Rattle.hx_framing.proofs.HeadEnds.{head_within_bytes, front_stable}
 use Rattle.hx_framing.proofs.BodyLemmas.{body_message, body_ended, body_over, settled_decided, body_extended, body_append}
@@ -23,7 +23,7 @@ request_body_message : (max : ℕ) (e t : Bool) (head : Head) (bytes : List ℕ)
 request_body_message max e t head bytes m r (Err f) x = absurd cc
 request_body_message max e t head bytes m r (Ok request_body) x = by_wish request_body.wants_continue t x
   where
-    body : Bool → StreamReading Request
+    body : Bool → StreamReadResult Request
     body e = reading_of_content e (request_of_head head) (content_by_framing max request_body.framing false bytes)
 
     by_wish : (w t : Bool) → Spelled m r ≡ cond (w && not t) Continue (body e) → Spelled m r ≡ cond (w && false) Continue (body false)
@@ -51,7 +51,7 @@ reads_message max e t u m r x = by_place (head_length (take 32768 u)) x
 
 -- ---- what is due stays due where the stream ends
 
-request_body_ended : (max : ℕ) (t : Bool) (head : Head) (bytes : List ℕ) (r : StreamReading Request) (f : Result RequestFraming FrameFault) → ReadingIsSettled r
+request_body_ended : (max : ℕ) (t : Bool) (head : Head) (bytes : List ℕ) (r : StreamReadResult Request) (f : Result RequestFraming FrameFault) → ReadingIsSettled r
     → r ≡ reading_with_request_body max false t head bytes f → r ≡ reading_with_request_body max true t head bytes f
 request_body_ended max t head bytes r (Err g) due x = x
 request_body_ended max t head bytes r (Ok request_body) due x = by_wish (request_body.wants_continue && not t) x
@@ -61,17 +61,17 @@ request_body_ended max t head bytes r (Ok request_body) due x = by_wish (request
     by_wish true x = x
     by_wish false x = body_ended (request_of_head head) r (content_by_framing max request_body.framing false bytes) due x
 
-head_ended : (max : ℕ) (t : Bool) (bytes : List ℕ) (r : StreamReading Request) (j : Result Head FrameFault) → ReadingIsSettled r
+head_ended : (max : ℕ) (t : Bool) (bytes : List ℕ) (r : StreamReadResult Request) (j : Result Head FrameFault) → ReadingIsSettled r
     → r ≡ reading_behind_request_head max false t bytes j → r ≡ reading_behind_request_head max true t bytes j
 head_ended max t bytes r (Err g) due x = x
 head_ended max t bytes r (Ok head) due x = request_body_ended max t head bytes r (request_framing_of max head) due x
 
-no_head_ended : (over blank : Bool) (r : StreamReading Request) → ReadingIsSettled r → r ≡ cond over (Faulty fault.Head) Incomplete
+no_head_ended : (over blank : Bool) (r : StreamReadResult Request) → ReadingIsSettled r → r ≡ cond over (Faulty fault.Head) Incomplete
     → r ≡ cond over (Faulty fault.Head) (cond blank Over (Faulty fault.Truncated))
 no_head_ended true blank r due x = x
 no_head_ended false blank r due x = absurd (subst ReadingIsSettled x due)
 
-pub reads_ended : (max : ℕ) (e t : Bool) (u : List ℕ) (r : StreamReading Request) → ReadingIsSettled r → ReadsAs max e t u r → ReadsAs max true t u r
+pub reads_ended : (max : ℕ) (e t : Bool) (u : List ℕ) (r : StreamReadResult Request) → ReadingIsSettled r → ReadsAs max e t u r → ReadsAs max true t u r
 reads_ended max true t u r due x = x
 reads_ended max false t u r due x = by_place (head_length (take 32768 u)) x
   where
@@ -83,11 +83,11 @@ reads_ended max false t u r due x = by_place (head_length (take 32768 u)) x
 pub reads_over : (max : ℕ) (t : Bool) (u : List ℕ) → ReadsAs max false t u Over → ⊥
 reads_over max t u x = by_place (head_length (take 32768 u)) x
   where
-    no_over : (over : Bool) → ◌≡◌ {A = StreamReading Request} Over (cond {A = StreamReading Request} over (Faulty fault.Head) Incomplete) → ⊥
+    no_over : (over : Bool) → ◌≡◌ {A = StreamReadResult Request} Over (cond {A = StreamReadResult Request} over (Faulty fault.Head) Incomplete) → ⊥
     no_over true x = cc
     no_over false x = cc
 
-    wish_over : (w : Bool) (r : StreamReading Request) → (Over ≡ r → ⊥) → ◌≡◌ {A = StreamReading Request} Over (cond {A = StreamReading Request} w Continue r) → ⊥
+    wish_over : (w : Bool) (r : StreamReadResult Request) → (Over ≡ r → ⊥) → ◌≡◌ {A = StreamReadResult Request} Over (cond {A = StreamReadResult Request} w Continue r) → ⊥
     wish_over true r none x = cc
     wish_over false r none x = none x
 
@@ -112,7 +112,7 @@ request_body_append : (max : ℕ) (t : Bool) (head : Head) (bytes w : List ℕ) 
 request_body_append max t head bytes w (Err g) due = refl
 request_body_append max t head bytes w (Ok request_body) due = by_wish (request_body.wants_continue && not t) due
   where
-    body : List ℕ → StreamReading Request
+    body : List ℕ → StreamReadResult Request
     body bytes = reading_of_content false (request_of_head head) (content_by_framing max request_body.framing false bytes)
 
     by_wish : (s : Bool) → ReadingIsSettled (cond s Continue (body bytes)) → cond s Continue (body (bytes ++ w)) ≡ reading_with_more_bytes (cond s Continue (body bytes)) w
@@ -127,7 +127,7 @@ head_append : (max : ℕ) (t : Bool) (bytes w : List ℕ) (j : Result Head Frame
 head_append max t bytes w (Err g) due = refl
 head_append max t bytes w (Ok head) due = request_body_append max t head bytes w (request_framing_of max head) due
 
-pub reads_append : (max : ℕ) (t : Bool) (u w : List ℕ) (r : StreamReading Request) → ReadingIsSettled r → ReadsAs max false t u r → ReadsAs max false t (u ++ w) (reading_with_more_bytes r w)
+pub reads_append : (max : ℕ) (t : Bool) (u w : List ℕ) (r : StreamReadResult Request) → ReadingIsSettled r → ReadsAs max false t u r → ReadsAs max false t (u ++ w) (reading_with_more_bytes r w)
 reads_append max t u w r due x = by_place (head_length (take 32768 u)) refl x
   where
     by_place : (o : Option ℕ) → head_length (take 32768 u) ≡ o → RequestReadsByHeadLength max false t u o r → ReadsAs max false t (u ++ w) (reading_with_more_bytes r w)
@@ -139,7 +139,7 @@ reads_append max t u w r due x = by_place (head_length (take 32768 u)) refl x
             let same : take 32768 (u ++ w) ≡ take 32768 u = take-append-le 32768 u w (omega arith) in
             let over : nat_lt 32768 (length (u ++ w)) ≡ true = lt-ltb _ _ (omega (arith, length-append u w)) in
             subst (λ (o : Option ℕ). RequestReadsByHeadLength max false t (u ++ w) o (reading_with_more_bytes r w)) (sym (ap head_length same ∙ place))
-            (ap (λ (r : StreamReading Request). reading_with_more_bytes r w) x ∙ sym (ap (λ (s : Bool). cond {A = StreamReading Request} s (Faulty fault.Head) Incomplete) over))
+            (ap (λ (r : StreamReadResult Request). reading_with_more_bytes r w) x ∙ sym (ap (λ (s : Bool). cond {A = StreamReadResult Request} s (Faulty fault.Head) Incomplete) over))
         by_test false p x = absurd (subst ReadingIsSettled x due)
     by_place (Some n) place x =
         let still = front_stable 32768 n u w place in
@@ -147,6 +147,6 @@ reads_append max t u w r due x = by_place (head_length (take 32768 u)) refl x
         subst (λ (o : Option ℕ). RequestReadsByHeadLength max false t (u ++ w) o (reading_with_more_bytes r w)) (sym still) (
           x.0,
           subst (λ (b : List ℕ). RequestHeadIsJudged b x.0) (sym (take-append-le n u w within)) x.1,
-          ap (λ (r : StreamReading Request). reading_with_more_bytes r w) x.2 ∙ sym (head_append max t (drop n u) w x.0 (subst ReadingIsSettled x.2 due))
+          ap (λ (r : StreamReadResult Request). reading_with_more_bytes r w) x.2 ∙ sym (head_append max t (drop n u) w x.0 (subst ReadingIsSettled x.2 due))
               ∙ ap (λ b. reading_behind_request_head max false t b x.0) (sym (drop-append-le n u w within)),
         )

@@ -7,7 +7,7 @@ use Rattle.hx_framing.specs.declared.messages.Request.{Request}
 use Rattle.hx_framing.specs.declared.messages.Next.{Next}
 use Rattle.hx_framing.specs.HeadEnd.{head_length}
 use Rattle.hx_framing.specs.Head.{RequestHeadIsJudged, head_of_parsed_request}
-use Rattle.hx_framing.specs.Reading.{StreamReading, Spelled}
+use Rattle.hx_framing.specs.Reading.{StreamReadResult, Spelled}
 use Rattle.hx_framing.specs.RequestReading.{ReadsAs, RequestReadsByHeadLength, reading_behind_request_head}
 use Rattle.hx_framing.specs.Progress.{Progress, next_answer_of_reading}
 use Rattle.hx_framing.specs.RequestStream.{StreamSpells, Answers}
@@ -18,7 +18,7 @@ judged_once_lem bytes (Ok a) (Err g) x y = absurd (y.0 x.0 x.1)
 judged_once_lem bytes (Err f) (Ok b) x y = absurd (x.0 y.0 y.1)
 judged_once_lem bytes (Err f) (Err g) x y = ap Err (x.1 ∙ sym y.1)
 
-pub read_once_lem : (max : ℕ) (ended continue_sent : Bool) (bytes : List ℕ) (a b : StreamReading Request) → ReadsAs max ended continue_sent bytes a → ReadsAs max ended continue_sent bytes b → a ≡ b
+pub read_once_lem : (max : ℕ) (ended continue_sent : Bool) (bytes : List ℕ) (a b : StreamReadResult Request) → ReadsAs max ended continue_sent bytes a → ReadsAs max ended continue_sent bytes b → a ≡ b
 read_once_lem max ended continue_sent bytes a b x y = by_place (head_length (take 32768 bytes)) x y
   where
     by_place : (o : Option ℕ) → RequestReadsByHeadLength max ended continue_sent bytes o a → RequestReadsByHeadLength max ended continue_sent bytes o b → a ≡ b

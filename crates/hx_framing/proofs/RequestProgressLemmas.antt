@@ -10,16 +10,16 @@ use Rattle.hx_framing.specs.declared.frame_fault.FrameFault.TheVariants as fault
 use Rattle.hx_framing.specs.declared.contents.content.Content.{Content}
 use Rattle.hx_framing.specs.declared.contents.content.ContentProgress.{ContentProgress}
 use Rattle.hx_framing.specs.declared.contents.content.ContentProgress.TheVariants as content_progress
-use Rattle.hx_framing.specs.declared.readers.progress.HeadProgress.TheVariants as head_progress
+use Rattle.hx_framing.specs.declared.readers.progress.MessageProgress.TheVariants as head_progress
 use Rattle.hx_framing.specs.HeadEnd.{head_length, empty_lines_length}
 use Rattle.hx_framing.specs.Head.{RequestHeadIsJudged}
 use Rattle.hx_framing.specs.Lengths.{request_framing_of}
 use Rattle.hx_framing.specs.Body.{ContentParseResult, Short, Whole}
-use Rattle.hx_framing.specs.Contents.{content_by_framing, content_resumed, content_before_first_byte, IsUnfinishedContent}
+use Rattle.hx_framing.specs.Contents.{content_by_framing, result_of_resumed_content, content_before_first_byte, IsRestOfUnfinishedContent}
 use Rattle.hx_framing.specs.ContentReading.{ContentIsReadFurther, bytes_behind_content as behind_read}
-use Rattle.hx_framing.specs.Reading.{StreamReading, Incomplete, Continue, Over, Spelled, Faulty, truncated_or_incomplete, reading_of_content}
+use Rattle.hx_framing.specs.Reading.{StreamReadResult, Incomplete, Continue, Over, Spelled, Faulty, truncated_or_incomplete, reading_of_content}
 use Rattle.hx_framing.specs.RequestReading.{request_of_head, reading_with_request_body, reading_without_request_head, RequestReadsByHeadLength, ReadsAs}
-use Rattle.hx_framing.specs.RequestHeadProgress.{RequestContentResumes, IsProgressOfBytes}
+use Rattle.hx_framing.specs.RequestHeadProgress.{RequestReadsByResumedContent, IsProgressOfBytes}
 use Rattle.hx_framing.proofs.HeadEnds.{head_within_bytes, front_stable}
 use Rattle.hx_framing.proofs.BodyLemmas.{begun_is}
 use Rattle.hx_framing.proofs.ContentReadings.{body_faulty}
@@ -52,15 +52,15 @@ pub reads_content : (max : ℕ) (e t : Bool) (bytes : List ℕ) (at : ℕ) (head
     → (request_body.wants_continue && not t) ≡ false
     → ReadsAs max e t bytes (reading_of_content e (request_of_head head) (content_by_framing max request_body.framing false (drop at bytes)))
 reads_content max e t bytes at head request_body b continue_sent =
-    subst (λ (r : StreamReading Request). ReadsAs max e t bytes r)
-    (ap (λ (w : Bool). cond {A = StreamReading Request} w Continue (reading_of_content e (request_of_head head) (content_by_framing max request_body.framing false (drop at bytes)))) continue_sent)
+    subst (λ (r : StreamReadResult Request). ReadsAs max e t bytes r)
+    (ap (λ (w : Bool). cond {A = StreamReadResult Request} w Continue (reading_of_content e (request_of_head head) (content_by_framing max request_body.framing false (drop at bytes)))) continue_sent)
     (reads_begun max e t bytes at head request_body b)
 
 -- whatever comes, the content is read on from where it stands
 resumes_from : (max : ℕ) (t : Bool) (bytes : List ℕ) (at : ℕ) (head : Head) (request_body : RequestFraming) (content : Content) (unread : List ℕ)
     → Begins max bytes at head request_body → (request_body.wants_continue && not t) ≡ false
-    → ((more : List ℕ) → content_by_framing max request_body.framing false (drop at bytes ++ more) ≡ content_resumed content false (unread ++ more))
-    → RequestContentResumes max t head content bytes unread
+    → ((more : List ℕ) → content_by_framing max request_body.framing false (drop at bytes ++ more) ≡ result_of_resumed_content content false (unread ++ more))
+    → RequestReadsByResumedContent max t head content bytes unread
 resumes_from max t bytes at head request_body content unread b continue_sent on = λ more ended.
     subst (λ (body : ContentParseResult). ReadsAs max ended t (bytes ++ more) (reading_of_content ended (request_of_head head) body))
     (ap (content_by_framing max request_body.framing false) (drop-append-le at bytes more (place_within bytes at b.place)) ∙ on more)
@@ -75,8 +75,8 @@ pub progress_continue : (max : ℕ) (e : Bool) (bytes : List ℕ) (at : ℕ) (he
     → request_body.wants_continue ≡ true → IsProgressOfBytes max e bytes (head_progress.NeedsContinue head (content_before_first_byte max request_body.framing) at)
 progress_continue max e bytes at head request_body b some wants = (
   (some, place_within bytes at b.place),
-  subst (λ (r : StreamReading Request). ReadsAs max e false bytes r)
-      (ap (λ (w : Bool). cond {A = StreamReading Request} (w && true) Continue (reading_of_content e (request_of_head head) (content_by_framing max request_body.framing false (drop at bytes)))) wants)
+  subst (λ (r : StreamReadResult Request). ReadsAs max e false bytes r)
+      (ap (λ (w : Bool). cond {A = StreamReadResult Request} (w && true) Continue (reading_of_content e (request_of_head head) (content_by_framing max request_body.framing false (drop at bytes)))) wants)
       (reads_begun max e false bytes at head request_body b),
   resumes_from max true bytes at head request_body (content_before_first_byte max request_body.framing) (drop at bytes) b (never request_body.wants_continue) (λ more. begun_is max request_body.framing false (drop at bytes ++ more)),
 )
@@ -91,7 +91,7 @@ Took max e request_body bytes at t content =
     ContentIsReadFurther e false (drop at bytes) (content_before_first_byte max request_body.framing) t content (behind_read t (drop at bytes))
 
 reads_taken : (max : ℕ) (e : Bool) (bytes : List ℕ) (at : ℕ) (head : Head) (request_body : RequestFraming) (body : ContentParseResult) → Begins max bytes at head request_body
-    → request_body.wants_continue ≡ false → content_resumed (content_before_first_byte max request_body.framing) false (drop at bytes) ≡ body
+    → request_body.wants_continue ≡ false → result_of_resumed_content (content_before_first_byte max request_body.framing) false (drop at bytes) ≡ body
     → ReadsAs max e false bytes (reading_of_content e (request_of_head head) body)
 reads_taken max e bytes at head request_body body b quiet is =
     subst (λ (body : ContentParseResult). ReadsAs max e false bytes (reading_of_content e (request_of_head head) body)) (begun_is max request_body.framing false (drop at bytes) ∙ is)
@@ -103,19 +103,19 @@ progress_going max e bytes at head request_body content t n b some quiet is took
     let k : Took max e request_body bytes at (content_progress.Incomplete n) content = subst (λ (t : ContentProgress). Took max e request_body bytes at t content) is took in
     let same : drop n (drop at bytes) ≡ drop (at + n) bytes = drop-drop n at bytes in (
       (omega arith, behind bytes at n (place_within bytes at b.place) k.1.0),
-      subst (λ (r : StreamReading Request). ReadsAs max e false bytes r) (ap (λ (e : Bool). truncated_or_incomplete {M = Request} e) k.0)
+      subst (λ (r : StreamReadResult Request). ReadsAs max e false bytes r) (ap (λ (e : Bool). truncated_or_incomplete {M = Request} e) k.0)
           (reads_taken max e bytes at head request_body Short b quiet k.1.1),
       resumes_from max false bytes at head request_body content (drop (at + n) bytes) b (ap (λ (w : Bool). w && true) quiet)
-          (λ more. begun_is max request_body.framing false (drop at bytes ++ more) ∙ k.1.2 more false ∙ ap (λ u. content_resumed content false (u ++ more)) same),
-      subst (λ (u : List ℕ). IsUnfinishedContent content u) same k.1.3,
+          (λ more. begun_is max request_body.framing false (drop at bytes ++ more) ∙ k.1.2 more false ∙ ap (λ u. result_of_resumed_content content false (u ++ more)) same),
+      subst (λ (u : List ℕ). IsRestOfUnfinishedContent content u) same k.1.3,
     )
 
 pub progress_faulty : (max : ℕ) (e : Bool) (bytes : List ℕ) (at : ℕ) (head : Head) (request_body : RequestFraming) (content : Content) (t : ContentProgress) (f : FrameFault) → Begins max bytes at head request_body
     → request_body.wants_continue ≡ false → t ≡ content_progress.Faulty f → Took max e request_body bytes at t content → IsProgressOfBytes max e bytes (head_progress.Faulty f)
 progress_faulty max e bytes at head request_body content t f b quiet is took =
     let k : Took max e request_body bytes at (content_progress.Faulty f) content = subst (λ (t : ContentProgress). Took max e request_body bytes at t content) is took in
-    let body : ContentParseResult = content_resumed (content_before_first_byte max request_body.framing) false (drop at bytes) in
-    subst (λ (r : StreamReading Request). ReadsAs max e false bytes r) (body_faulty e (request_of_head head) body f k.0)
+    let body : ContentParseResult = result_of_resumed_content (content_before_first_byte max request_body.framing) false (drop at bytes) in
+    subst (λ (r : StreamReadResult Request). ReadsAs max e false bytes r) (body_faulty e (request_of_head head) body f k.0)
     (reads_taken max e bytes at head request_body body b quiet refl)
 
 pub progress_message : (max : ℕ) (e : Bool) (bytes : List ℕ) (at : ℕ) (head : Head) (request_body : RequestFraming) (content : Content) (t : ContentProgress) (c : Option (List ℕ)) (n : ℕ)
@@ -140,7 +140,7 @@ pub progress_unframed : (max : ℕ) (e : Bool) (bytes : List ℕ) (at : ℕ) (he
 progress_unframed max e bytes at head f place judged request_body =
     subst (λ (o : Option ℕ). RequestReadsByHeadLength max e false bytes o (Faulty f)) (sym place) (Ok head, judged, ap (reading_with_request_body max e false head (drop at bytes)) (sym request_body))
 
-pub reads_without : (max : ℕ) (e t : Bool) (bytes : List ℕ) (r : StreamReading Request) → head_length (take 32768 bytes) ≡ None
+pub reads_without : (max : ℕ) (e t : Bool) (bytes : List ℕ) (r : StreamReadResult Request) → head_length (take 32768 bytes) ≡ None
     → r ≡ reading_without_request_head e bytes → ReadsAs max e t bytes r
 reads_without max e t bytes r none is = subst (λ (o : Option ℕ). RequestReadsByHeadLength max e t bytes o r) (sym none) is
 
@@ -155,5 +155,5 @@ took max e request_body bytes at rest old t content same is h =
 -- a head may still end within the limit
 pub waits_for_head : (e : Bool) (bytes : List ℕ) → e ≡ false → length bytes ≤ 32768 → Incomplete ≡ reading_without_request_head e bytes
 waits_for_head e bytes open_still short =
-    sym (ap (λ (t : Bool). cond {A = StreamReading Request} t (Faulty fault.Head) (cond {A = StreamReading Request} (e && (empty_lines_length bytes == length bytes)) Over (truncated_or_incomplete e))) (le-ltb 32768 (length bytes) short)
-    ∙ ap (λ (e : Bool). cond {A = StreamReading Request} (e && (empty_lines_length bytes == length bytes)) Over (truncated_or_incomplete e)) open_still)
+    sym (ap (λ (t : Bool). cond {A = StreamReadResult Request} t (Faulty fault.Head) (cond {A = StreamReadResult Request} (e && (empty_lines_length bytes == length bytes)) Over (truncated_or_incomplete e))) (le-ltb 32768 (length bytes) short)
+    ∙ ap (λ (e : Bool). cond {A = StreamReadResult Request} (e && (empty_lines_length bytes == length bytes)) Over (truncated_or_incomplete e)) open_still)

@@ -11,8 +11,8 @@ use Rattle.hx_framing.specs.HeadEnd.{head_length}
 use Rattle.hx_framing.specs.StatusHead.{ResponseHeadIsJudged}
 use Rattle.hx_framing.specs.Lengths.{framing_of_response}
 use Rattle.hx_framing.specs.Contents.{content_by_framing}
-use Rattle.hx_framing.specs.Reading.{StreamReading, Incomplete, Over, Faulty, truncated_or_incomplete, reading_of_content, ReadingIsSettled, reading_with_more_bytes}
-use Rattle.hx_framing.specs.ResponseReading.{response_of_head, reading_with_framing, reading_behind_response_head, FinalReadsByHeadLength, FinalResponseReadsAs, IsInterimHead, SkipsInterimResponses, ReadsAs}
+use Rattle.hx_framing.specs.Reading.{StreamReadResult, Incomplete, Over, Faulty, truncated_or_incomplete, reading_of_content, ReadingIsSettled, reading_with_more_bytes}
+use Rattle.hx_framing.specs.ResponseReading.{response_of_head, response_reading_by_framing, reading_behind_response_head, FinalResponseReadsByHeadLength, FinalResponseReadsAs, IsInterimHead, SkipsInterimResponses, ReadsAs}
 use Rattle.hx_framing.proofs.HeadEnds.{head_within_bytes, front_stable}
 use Rattle.hx_framing.proofs.BodyLemmas.{body_ended, body_over, settled_decided, body_extended, body_append, body_stays}
 
@@ -21,12 +21,12 @@ use Rattle.hx_framing.proofs.BodyLemmas.{body_ended, body_over, settled_decided,
 front_over : (max : ℕ) (h e : Bool) (u : List ℕ) → FinalResponseReadsAs max h e u Over → ⊥
 front_over max h e u x = by_place (head_length (take 32768 u)) x
   where
-    cut_over : (e t : Bool) (r : StreamReading Response) → (Over ≡ r → ⊥) → Over ≡ cond {A = StreamReading Response} t r (truncated_or_incomplete e) → ⊥
+    cut_over : (e t : Bool) (r : StreamReadResult Response) → (Over ≡ r → ⊥) → Over ≡ cond {A = StreamReadResult Response} t r (truncated_or_incomplete e) → ⊥
     cut_over e true r no_over x = no_over x
     cut_over true false r no_over x = cc
     cut_over false false r no_over x = cc
 
-    framing_over : (head : StatusHead) (bytes : List ℕ) (n : Result Framing FrameFault) → Over ≡ reading_with_framing max h e head bytes n → ⊥
+    framing_over : (head : StatusHead) (bytes : List ℕ) (n : Result Framing FrameFault) → Over ≡ response_reading_by_framing max h e head bytes n → ⊥
     framing_over head bytes (Err f) x = cc
     framing_over head bytes (Ok continue_sent) x = body_over e (response_of_head h head) (content_by_framing max continue_sent e bytes) x
 
@@ -34,7 +34,7 @@ front_over max h e u x = by_place (head_length (take 32768 u)) x
     head_over bytes (Err f) x = cc
     head_over bytes (Ok head) x = framing_over head bytes (framing_of_response max h head) x
 
-    by_place : (o : Option ℕ) → FinalReadsByHeadLength max h e u o Over → ⊥
+    by_place : (o : Option ℕ) → FinalResponseReadsByHeadLength max h e u o Over → ⊥
     by_place None x = cut_over e (nat_lt 32768 (length u)) (Faulty fault.Head) (λ o. cc) x
     by_place (Some n) x = head_over (drop n u) x.0 x.3
 
@@ -43,38 +43,38 @@ reads_over max h e u x = front_over max h e x.1 x.3
 
 -- ---- what is due stays due where the stream ends
 
-cut_ended : (r s : StreamReading Response) (t : Bool) → ReadingIsSettled r → r ≡ cond {A = StreamReading Response} t s (truncated_or_incomplete false) → r ≡ cond {A = StreamReading Response} t s (truncated_or_incomplete true)
+cut_ended : (r s : StreamReadResult Response) (t : Bool) → ReadingIsSettled r → r ≡ cond {A = StreamReadResult Response} t s (truncated_or_incomplete false) → r ≡ cond {A = StreamReadResult Response} t s (truncated_or_incomplete true)
 cut_ended r s true due x = x
 cut_ended r s false due x = absurd (subst ReadingIsSettled x due)
 
-framing_ended : (max : ℕ) (h : Bool) (head : StatusHead) (bytes : List ℕ) (r : StreamReading Response) (n : Result Framing FrameFault) → ReadingIsSettled r
-    → r ≡ reading_with_framing max h false head bytes n → r ≡ reading_with_framing max h true head bytes n
+framing_ended : (max : ℕ) (h : Bool) (head : StatusHead) (bytes : List ℕ) (r : StreamReadResult Response) (n : Result Framing FrameFault) → ReadingIsSettled r
+    → r ≡ response_reading_by_framing max h false head bytes n → r ≡ response_reading_by_framing max h true head bytes n
 framing_ended max h head bytes r (Err f) due x = x
 framing_ended max h head bytes r (Ok continue_sent) due x =
     let decided = settled_decided (response_of_head h head) (content_by_framing max continue_sent false bytes) (subst ReadingIsSettled x due) in
     body_ended (response_of_head h head) r (content_by_framing max continue_sent false bytes) due x
     ∙ ap (reading_of_content true (response_of_head h head)) (body_stays max continue_sent bytes decided)
 
-head_ended : (max : ℕ) (h : Bool) (bytes : List ℕ) (r : StreamReading Response) (j : Result StatusHead FrameFault) → ReadingIsSettled r
+head_ended : (max : ℕ) (h : Bool) (bytes : List ℕ) (r : StreamReadResult Response) (j : Result StatusHead FrameFault) → ReadingIsSettled r
     → r ≡ reading_behind_response_head max h false bytes j → r ≡ reading_behind_response_head max h true bytes j
 head_ended max h bytes r (Err f) due x = x
 head_ended max h bytes r (Ok head) due x = framing_ended max h head bytes r (framing_of_response max h head) due x
 
-front_ended : (max : ℕ) (h e : Bool) (u : List ℕ) (r : StreamReading Response) → ReadingIsSettled r → FinalResponseReadsAs max h e u r → FinalResponseReadsAs max h true u r
+front_ended : (max : ℕ) (h e : Bool) (u : List ℕ) (r : StreamReadResult Response) → ReadingIsSettled r → FinalResponseReadsAs max h e u r → FinalResponseReadsAs max h true u r
 front_ended max h true u r due x = x
 front_ended max h false u r due x = by_place (head_length (take 32768 u)) x
   where
-    by_place : (o : Option ℕ) → FinalReadsByHeadLength max h false u o r → FinalReadsByHeadLength max h true u o r
+    by_place : (o : Option ℕ) → FinalResponseReadsByHeadLength max h false u o r → FinalResponseReadsByHeadLength max h true u o r
     by_place None x = cut_ended r (Faulty fault.Head) (nat_lt 32768 (length u)) due x
     by_place (Some n) x = (x.0, x.1, x.2, head_ended max h (drop n u) r x.0 due x.3)
 
-pub reads_ended : (max : ℕ) (h e : Bool) (u : List ℕ) (r : StreamReading Response) → ReadingIsSettled r → ReadsAs max h e u r → ReadsAs max h true u r
+pub reads_ended : (max : ℕ) (h e : Bool) (u : List ℕ) (r : StreamReadResult Response) → ReadingIsSettled r → ReadsAs max h e u r → ReadsAs max h true u r
 reads_ended max h e u r due x = (x.0, x.1, x.2, front_ended max h e x.1 r due x.3)
 
 -- ---- bytes that come later
 
-framing_append : (max : ℕ) (h : Bool) (head : StatusHead) (bytes w : List ℕ) (n : Result Framing FrameFault) → ReadingIsSettled (reading_with_framing max h false head bytes n)
-    → reading_with_framing max h false head (bytes ++ w) n ≡ reading_with_more_bytes (reading_with_framing max h false head bytes n) w
+framing_append : (max : ℕ) (h : Bool) (head : StatusHead) (bytes w : List ℕ) (n : Result Framing FrameFault) → ReadingIsSettled (response_reading_by_framing max h false head bytes n)
+    → response_reading_by_framing max h false head (bytes ++ w) n ≡ reading_with_more_bytes (response_reading_by_framing max h false head bytes n) w
 framing_append max h head bytes w (Err f) due = refl
 framing_append max h head bytes w (Ok continue_sent) due =
     let decided = settled_decided (response_of_head h head) (content_by_framing max continue_sent false bytes) due in
@@ -86,10 +86,10 @@ head_append : (max : ℕ) (h : Bool) (bytes w : List ℕ) (j : Result StatusHead
 head_append max h bytes w (Err f) due = refl
 head_append max h bytes w (Ok head) due = framing_append max h head bytes w (framing_of_response max h head) due
 
-front_append : (max : ℕ) (h : Bool) (u w : List ℕ) (r : StreamReading Response) → ReadingIsSettled r → FinalResponseReadsAs max h false u r → FinalResponseReadsAs max h false (u ++ w) (reading_with_more_bytes r w)
+front_append : (max : ℕ) (h : Bool) (u w : List ℕ) (r : StreamReadResult Response) → ReadingIsSettled r → FinalResponseReadsAs max h false u r → FinalResponseReadsAs max h false (u ++ w) (reading_with_more_bytes r w)
 front_append max h u w r due x = by_place (head_length (take 32768 u)) refl x
   where
-    by_place : (o : Option ℕ) → head_length (take 32768 u) ≡ o → FinalReadsByHeadLength max h false u o r → FinalResponseReadsAs max h false (u ++ w) (reading_with_more_bytes r w)
+    by_place : (o : Option ℕ) → head_length (take 32768 u) ≡ o → FinalResponseReadsByHeadLength max h false u o r → FinalResponseReadsAs max h false (u ++ w) (reading_with_more_bytes r w)
     by_place None place x = by_test (nat_lt 32768 (length u)) refl x
       where
         by_test : (s : Bool) → nat_lt 32768 (length u) ≡ s → r ≡ cond s (Faulty fault.Head) Incomplete → FinalResponseReadsAs max h false (u ++ w) (reading_with_more_bytes r w)
@@ -97,17 +97,17 @@ front_append max h u w r due x = by_place (head_length (take 32768 u)) refl x
             let long : 32768 < length u = ltb-true _ _ p in
             let same : take 32768 (u ++ w) ≡ take 32768 u = take-append-le 32768 u w (omega arith) in
             let over : nat_lt 32768 (length (u ++ w)) ≡ true = lt-ltb _ _ (omega (arith, length-append u w)) in
-            subst (λ (o : Option ℕ). FinalReadsByHeadLength max h false (u ++ w) o (reading_with_more_bytes r w)) (sym (ap head_length same ∙ place))
-            (ap (λ (r : StreamReading Response). reading_with_more_bytes r w) x ∙ sym (ap (λ (s : Bool). cond {A = StreamReading Response} s (Faulty fault.Head) Incomplete) over))
+            subst (λ (o : Option ℕ). FinalResponseReadsByHeadLength max h false (u ++ w) o (reading_with_more_bytes r w)) (sym (ap head_length same ∙ place))
+            (ap (λ (r : StreamReadResult Response). reading_with_more_bytes r w) x ∙ sym (ap (λ (s : Bool). cond {A = StreamReadResult Response} s (Faulty fault.Head) Incomplete) over))
         by_test false p x = absurd (subst ReadingIsSettled x due)
     by_place (Some n) place x =
         let still = front_stable 32768 n u w place in
         let within : n ≤ length u = omega (arith, head_within_bytes (take 32768 u) n place, length-take 32768 u) in
-        subst (λ (o : Option ℕ). FinalReadsByHeadLength max h false (u ++ w) o (reading_with_more_bytes r w)) (sym still) (
+        subst (λ (o : Option ℕ). FinalResponseReadsByHeadLength max h false (u ++ w) o (reading_with_more_bytes r w)) (sym still) (
           x.0,
           subst (λ (b : List ℕ). ResponseHeadIsJudged b x.0) (sym (take-append-le n u w within)) x.1,
           x.2,
-          ap (λ (r : StreamReading Response). reading_with_more_bytes r w) x.3 ∙ sym (head_append max h (drop n u) w x.0 (subst ReadingIsSettled x.3 due))
+          ap (λ (r : StreamReadResult Response). reading_with_more_bytes r w) x.3 ∙ sym (head_append max h (drop n u) w x.0 (subst ReadingIsSettled x.3 due))
               ∙ ap (λ b. reading_behind_response_head max h false b x.0) (sym (drop-append-le n u w within)),
         )
 
@@ -142,9 +142,9 @@ pub passes_behind : (bytes : List ℕ) (sizes : List ℕ) (middle : List ℕ) (m
 passes_behind bytes [] middle more rest x y = subst (λ (b : List ℕ). SkipsInterimResponses b more rest) (sym x) y
 passes_behind bytes (m ∷ sizes) middle more rest x y = (x.0, passes_behind (drop m bytes) sizes middle more rest x.1 y)
 
-pub reads_behind : (max : ℕ) (h e : Bool) (bytes : List ℕ) (sizes : List ℕ) (middle : List ℕ) (r : StreamReading Response) → SkipsInterimResponses bytes sizes middle
+pub reads_behind : (max : ℕ) (h e : Bool) (bytes : List ℕ) (sizes : List ℕ) (middle : List ℕ) (r : StreamReadResult Response) → SkipsInterimResponses bytes sizes middle
     → ReadsAs max h e middle r → ReadsAs max h e bytes r
 reads_behind max h e bytes sizes middle r x y = (sizes ++ y.0, y.1, passes_behind bytes sizes middle y.0 y.1 x y.2, y.3)
 
-pub reads_append : (max : ℕ) (h : Bool) (u w : List ℕ) (r : StreamReading Response) → ReadingIsSettled r → ReadsAs max h false u r → ReadsAs max h false (u ++ w) (reading_with_more_bytes r w)
+pub reads_append : (max : ℕ) (h : Bool) (u w : List ℕ) (r : StreamReadResult Response) → ReadingIsSettled r → ReadsAs max h false u r → ReadsAs max h false (u ++ w) (reading_with_more_bytes r w)
 reads_append max h u w r due x = (x.0, x.1 ++ w, passes_append u x.0 x.1 w x.2, front_append max h x.1 w r due x.3)

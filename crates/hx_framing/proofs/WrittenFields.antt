@@ -107,7 +107,7 @@ head_front r rest =
     ap (take (length (request_head_text r))) (append_assoc (request_head_text r) (content_bytes r.content) rest)
     ∙ take-append_seam (request_head_text r) (content_bytes r.content ++ rest)
 
-pub content_behind : (r : Request) (rest : List ℕ) → drop (length (request_head_text r)) (request_text r ++ rest) ≡ content_bytes r.content ++ rest
-content_behind r rest =
+pub content_after_empty_line : (r : Request) (rest : List ℕ) → drop (length (request_head_text r)) (request_text r ++ rest) ≡ content_bytes r.content ++ rest
+content_after_empty_line r rest =
     ap (drop (length (request_head_text r))) (append_assoc (request_head_text r) (content_bytes r.content) rest)
     ∙ drop-append_seam (request_head_text r) (content_bytes r.content ++ rest)

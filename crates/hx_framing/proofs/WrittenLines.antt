@@ -62,15 +62,15 @@ same_line f = regroup f.name f.value
     regroup : (a b : List ℕ) → (a ++ 58 ∷ 32 ∷ b) ++ 13 ∷ 10 ∷ [] ≡ ((a ++ 58 ∷ 32 ∷ []) ++ b) ++ 13 ∷ 10 ∷ []
     regroup a b = simp append_assoc refl
 
-pub trailer_lines_text : (fs : List Field) → flat_map print_field (map written_field fs) ≡ field_lines_text fs
-trailer_lines_text [] = refl
-trailer_lines_text (f ∷ fs) = ap (λ t. t ++ flat_map print_field (map written_field fs)) (same_line f) ∙ ap (λ t. field_line_text f ++ t) (trailer_lines_text fs)
+pub trailer_lines_text_with_rest : (fs : List Field) → flat_map print_field (map written_field fs) ≡ field_lines_text fs
+trailer_lines_text_with_rest [] = refl
+trailer_lines_text_with_rest (f ∷ fs) = ap (λ t. t ++ flat_map print_field (map written_field fs)) (same_line f) ∙ ap (λ t. field_line_text f ++ t) (trailer_lines_text_with_rest fs)
 
 -- the head that is written, and nothing behind it
 pub head_printed : (r : Request) → request_head_text r ≡ print_request (written_head r) ++ []
 head_printed r =
     sent_lines r ∙ regroup r.method r.target (field_lines_text (request_fields_sent r))
-    ∙ ap (λ t. r.method ++ 32 ∷ (r.target ++ 32 ∷ (print_version 1 ++ (print_end crlf ++ ((t ++ print_end crlf) ++ []))))) (sym (trailer_lines_text (request_fields_sent r)))
+    ∙ ap (λ t. r.method ++ 32 ∷ (r.target ++ 32 ∷ (print_version 1 ++ (print_end crlf ++ ((t ++ print_end crlf) ++ []))))) (sym (trailer_lines_text_with_rest (request_fields_sent r)))
     ∙ sym (print_request-append (written_head r) [])
   where
     regroup : (m t l : List ℕ) → ((((m ++ 32 ∷ []) ++ t) ++ codes " HTTP/1.1") ++ text.crlf) ++ (l ++ text.crlf) ≡ m ++ 32 ∷ (t ++ 32 ∷ (print_version 1 ++ (print_end crlf ++ ((l ++ print_end crlf) ++ []))))

@@ -17,11 +17,11 @@ use Rattle.hx_framing.specs.declared.lengths.framing.Framing.TheVariants as fram
 use Rattle.hx_framing.specs.declared.lengths.framing.RequestFraming.{RequestFraming}
 use Rattle.hx_framing.specs.declared.messages.Request.{Request}
 use Rattle.hx_framing.specs.Head.{RequestHeadIsJudged}
-use Rattle.hx_framing.specs.ContentLength.{texts_between_commas, is_digits, announced_length, number_of_equal_texts}
-use Rattle.hx_framing.specs.Lengths.{transfer_encoding_name, expect_name, codings, last_coding_is_chunked, is_only_chunked, exceeds, announced_framing_or, expectation_of_head, framing_by_request_fields, framing_with_expectation, request_framing_of, without_length_fields}
+use Rattle.hx_framing.specs.ContentLength.{texts_between_commas, is_digits, announced_length, number_spelled_by_all}
+use Rattle.hx_framing.specs.Lengths.{transfer_encoding_name, expect_name, codings, only_last_coding_is_chunked, is_only_chunked, exceeds, announced_framing_or, expectation_of_head, framing_by_request_fields, framing_with_expectation, request_framing_of, without_length_fields}
 use Rattle.hx_framing.specs.Body.{Short, Whole}
 use Rattle.hx_framing.specs.Contents.{content_by_framing}
-use Rattle.hx_framing.specs.Reading.{StreamReading, Spelled, reading_of_content}
+use Rattle.hx_framing.specs.Reading.{StreamReadResult, Spelled, reading_of_content}
 use Rattle.hx_framing.specs.RequestReading.{request_of_head, ReadsAs}
 use Rattle.hx_framing.specs.Text.{length_of_content, content_bytes, request_text}
 use Rattle.hx_framing.specs.Written.{request_head_text, request_fields_sent, request_head_sent, connection_close_field, request_as_read_back, RequestIsWritable}
@@ -29,7 +29,7 @@ use Rattle.hx_framing.proofs.LengthShown.{values_of-absent}
 use Rattle.hx_framing.proofs.RequestProgressLemmas.{Begins, reads_content}
 use Rattle.hx_framing.proofs.WrittenLines.{written_head, head_written}
 use Rattle.hx_framing.proofs.WrittenEnds.{head_ends}
-use Rattle.hx_framing.proofs.WrittenFields.{lengths_none, lengths_some, codings_none, expectations_none, without_length, without_coding, decimal_back, head_front, content_behind}
+use Rattle.hx_framing.proofs.WrittenFields.{lengths_none, lengths_some, codings_none, expectations_none, without_length, without_coding, decimal_back, head_front, content_after_empty_line}
 
 -- digits are one piece
 no_comma : (ds : List ℕ) → list_all is_ascii_digit ds ≡ true → All (λ b. (b == 44) ≡ false) ds
@@ -41,19 +41,19 @@ no_comma (d ∷ ds) digits =
 
 -- and a length that is told
 pub one_piece : (ds : List ℕ) (n : ℕ) → 0 < length ds → list_all is_ascii_digit ds ≡ true → digits_value 10 ds ≡ n
-    → number_of_equal_texts (joined_lists (map texts_between_commas (ds ∷ []))) ≡ Some n
+    → number_spelled_by_all (joined_lists (map texts_between_commas (ds ∷ []))) ≡ Some n
 one_piece ds n some digits value =
     let one : texts_between_commas ds ≡ ds ∷ [] = slice_split_none (λ b. b == 44) ds (no_comma ds digits) in
     let test : is_digits ds ≡ true = and_from (is_nonempty ds) (list_all is_ascii_digit ds) (lt-ltb 0 (length ds) some) digits in
-    ap (λ ps. number_of_equal_texts (ps ++ [])) one ∙ ap (λ t. cond ((t && true) && true) (Some (digits_value 10 ds)) None) test ∙ ap Some value
+    ap (λ ps. number_spelled_by_all (ps ++ [])) one ∙ ap (λ t. cond ((t && true) && true) (Some (digits_value 10 ds)) None) test ∙ ap Some value
 
 -- the length that is told is the content's
 shown_sent : (r : Request) (c : Option (List ℕ)) → RequestIsWritable r → r.content ≡ c → announced_length (request_fields_sent r) ≡ length_of_content c
-shown_sent r None writable is = ap (λ vs. number_of_equal_texts (joined_lists (map texts_between_commas vs))) (lengths_none r writable is)
+shown_sent r None writable is = ap (λ vs. number_spelled_by_all (joined_lists (map texts_between_commas vs))) (lengths_none r writable is)
 shown_sent r (Some bytes) writable is =
     let small : length bytes < 2 ^ 64 = subst (λ c. length (content_bytes c) < 2 ^ 64) is writable.content in
     let back = decimal_back (length bytes) small in
-    ap (λ vs. number_of_equal_texts (joined_lists (map texts_between_commas vs))) (lengths_some r bytes writable is)
+    ap (λ vs. number_spelled_by_all (joined_lists (map texts_between_commas vs))) (lengths_some r bytes writable is)
     ∙ one_piece (decimal (length bytes)) (length bytes) back.0 back.1 back.2
 
 -- where a name has no value no line has it
@@ -103,7 +103,7 @@ framing_sent : (r : Request) (c : Option (List ℕ)) (max : ℕ) → RequestIsWr
 framing_sent r c max writable is small =
     let fields = request_fields_sent r in
     let shown = shown_sent r c writable is in
-    by_fields max (has_field fields transfer_encoding_name) (has_field fields (codes "content-length")) false (last_coding_is_chunked (codings fields)) (is_only_chunked (codings fields))
+    by_fields max (has_field fields transfer_encoding_name) (has_field fields (codes "content-length")) false (only_last_coding_is_chunked (codings fields)) (is_only_chunked (codings fields))
     (announced_length fields) (codings_none r writable) (length_sent r c writable is) (ap (exceeds max) shown ∙ within_sent max c small)
     ∙ ap (λ n. Ok (announced_framing_or framing.Nothing n)) shown
 
@@ -151,7 +151,7 @@ request_back r max e t rest writable small =
     let request_body = sent_request_body r.content in
     let bytes = request_text r ++ rest in
     let at = length (request_head_text r) in
-    subst (λ (reading : StreamReading Request). ReadsAs max e t bytes reading)
-    (ap (λ u. reading_of_content e (request_of_head head) (content_by_framing max request_body.framing false u)) (content_behind r rest)
+    subst (λ (reading : StreamReadResult Request). ReadsAs max e t bytes reading)
+    (ap (λ u. reading_of_content e (request_of_head head) (content_by_framing max request_body.framing false u)) (content_after_empty_line r rest)
     ∙ ap (reading_of_content e (request_of_head head)) (body_sent max r.content rest) ∙ ap (λ m. Spelled m rest) (request_sent r writable))
     (reads_content max e t bytes at head request_body (begins_sent r max rest writable small) refl)

@@ -25,13 +25,13 @@ use Rattle.hx_framing.specs.declared.lengths.framing.Framing.{Framing}
 use Rattle.hx_framing.specs.declared.lengths.framing.Framing.TheVariants as framing
 use Rattle.hx_framing.specs.declared.heads.status_head.StatusHead.{StatusHead}
 use Rattle.hx_framing.specs.Body.{Short, Whole}
-use Rattle.hx_framing.specs.ContentLength.{announced_length_within, texts_between_commas, announced_length, number_of_equal_texts}
+use Rattle.hx_framing.specs.ContentLength.{announced_length_within, texts_between_commas, announced_length, number_spelled_by_all}
 use Rattle.hx_framing.specs.Contents.{content_by_framing}
 use Rattle.hx_framing.specs.Lengths.{announced_length_in_answer_to_head, codings, framing_of_final_response, framing_of_response, announced_framing_or, exceeds, is_interim, is_only_chunked, is_accepted_status, response_has_no_content, transfer_encoding_name, framing_if_accepted_status, without_length_fields}
 use Rattle.hx_framing.specs.HeadEnd.{empty_lines_length, head_end_from, head_length, most_head_bytes}
 use Rattle.hx_framing.specs.Reading.{Spelled, reading_of_content}
-use Rattle.hx_framing.specs.ResponseReading.{FinalReadsByHeadLength, ReadsAs, content_bytes_of, response_of_head, reading_with_framing}
-use Rattle.hx_framing.specs.StatusHead.{IsStatusHead, ResponseHeadIsJudged, status_head_of}
+use Rattle.hx_framing.specs.ResponseReading.{FinalResponseReadsByHeadLength, ReadsAs, content_bytes_of, response_of_head, response_reading_by_framing}
+use Rattle.hx_framing.specs.StatusHead.{IsWholeResponseHead, ResponseHeadIsJudged, status_head_of}
 use Rattle.hx_framing.specs.Text as text
 use Rattle.hx_framing.specs.Text.{connection_close_line, field_line_text, field_lines_text, content_length_line, status_line_text}
 use Rattle.hx_framing.specs.Written.{FieldIsWritable, connection_close_field, content_length_fields}
@@ -39,7 +39,7 @@ use Rattle.hx_framing.specs.WrittenResponse.{ResponseIsWritable, SentResponse, c
 use Rattle.hx_framing.proofs.HeadEnds.{front_stable}
 use Rattle.hx_framing.proofs.WrittenEnds.{AreInside, empty_lines_none, inside_append, inside_by, lines_end, run, step}
 use Rattle.hx_framing.proofs.WrittenFields.{decimal_back, filter_none, filter_other}
-use Rattle.hx_framing.proofs.WrittenLines.{close_writable, length_fields_writable, length_lines, lines_are_fields, lines_back, trailer_lines_text, written_field}
+use Rattle.hx_framing.proofs.WrittenLines.{close_writable, length_fields_writable, length_lines, lines_are_fields, lines_back, trailer_lines_text_with_rest, written_field}
 use Rattle.hx_framing.proofs.WrittenRequests.{and_false, none_has, one_piece}
 
 -- ---- the lines
@@ -74,7 +74,7 @@ written_head m = record {
 head_printed : (m : SentResponse) → sent_response_head_text m ≡ print_response (written_head m) ++ []
 head_printed m =
     sent_lines m ∙ regroup (decimal m.status) (field_lines_text (response_fields_sent m))
-    ∙ ap (λ t. print_version 1 ++ 32 ∷ (decimal m.status ++ (32 ∷ [] ++ (print_end grammar.crlf ++ ((t ++ print_end grammar.crlf) ++ []))))) (sym (trailer_lines_text (response_fields_sent m)))
+    ∙ ap (λ t. print_version 1 ++ 32 ∷ (decimal m.status ++ (32 ∷ [] ++ (print_end grammar.crlf ++ ((t ++ print_end grammar.crlf) ++ []))))) (sym (trailer_lines_text_with_rest (response_fields_sent m)))
     ∙ sym (print_response-append (written_head m) [])
   where
     regroup : (d l : List ℕ) → (((codes "HTTP/1.1 " ++ d) ++ codes " ") ++ text.crlf) ++ (l ++ text.crlf) ≡ print_version 1 ++ 32 ∷ (d ++ (32 ∷ [] ++ (print_end grammar.crlf ++ ((l ++ print_end grammar.crlf) ++ []))))
@@ -99,7 +99,7 @@ all_writable h m writable =
 abbrev request_head_sent : SentResponse → StatusHead
 request_head_sent m = record { status = m.status; minor = 1; fields = response_fields_sent m }
 
-head_written : (h : Bool) (m : SentResponse) → ResponseIsWritable h m → IsStatusHead (sent_response_head_text m) (written_head m) × (status_head_of (written_head m) ≡ request_head_sent m)
+head_written : (h : Bool) (m : SentResponse) → ResponseIsWritable h m → IsWholeResponseHead (sent_response_head_text m) (written_head m) × (status_head_of (written_head m) ≡ request_head_sent m)
 head_written h m writable =
     let all = all_writable h m writable in
     let back = decimal_back m.status (omega (arith, writable.status.1)) in
@@ -192,10 +192,10 @@ no_lengths false = refl
 
 shown_sent : (m : SentResponse) (o : Option ℕ) → has_field m.fields (codes "content-length") ≡ false → IfSome o (λ n. n < 2 ^ 64) → m.shown ≡ o
     → announced_length (response_fields_sent m) ≡ o
-shown_sent m None none small is = ap (λ vs. number_of_equal_texts (joined_lists (map texts_between_commas vs))) (lengths_sent m None none is ∙ no_lengths m.close)
+shown_sent m None none small is = ap (λ vs. number_spelled_by_all (joined_lists (map texts_between_commas vs))) (lengths_sent m None none is ∙ no_lengths m.close)
 shown_sent m (Some n) none small is =
     let back = decimal_back n small in
-    ap (λ vs. number_of_equal_texts (joined_lists (map texts_between_commas vs))) (lengths_sent m (Some n) none is ∙ own_lengths n m.close)
+    ap (λ vs. number_spelled_by_all (joined_lists (map texts_between_commas vs))) (lengths_sent m (Some n) none is ∙ own_lengths n m.close)
     ∙ one_piece (decimal n) n back.0 back.1 back.2
 
 length_sent : (m : SentResponse) (o : Option ℕ) → has_field m.fields (codes "content-length") ≡ false → IfSome o (λ n. n < 2 ^ 64) → m.shown ≡ o
@@ -346,15 +346,15 @@ response_is_read_back h m max ended rest writable small =
     let behind = body_sent max h m rest writable in
     let front : take at bytes ≡ sent_response_head_text m = ap (take at) (append_assoc (sent_response_head_text m) m.content rest) ∙ take-append_seam (sent_response_head_text m) (m.content ++ rest) in
     let left : drop at bytes ≡ m.content ++ rest = ap (drop at) (append_assoc (sent_response_head_text m) m.content rest) ∙ drop-append_seam (sent_response_head_text m) (m.content ++ rest) in
-    let reading : reading_with_framing max h ended (request_head_sent m) (drop at bytes) (framing_of_response max h (request_head_sent m)) ≡ Spelled (response_as_read_back h m) rest
-    = ap (reading_with_framing max h ended (request_head_sent m) (drop at bytes)) (framing_sent h m max writable small)
+    let reading : response_reading_by_framing max h ended (request_head_sent m) (drop at bytes) (framing_of_response max h (request_head_sent m)) ≡ Spelled (response_as_read_back h m) rest
+    = ap (response_reading_by_framing max h ended (request_head_sent m) (drop at bytes)) (framing_sent h m max writable small)
     ∙ ap (λ u. reading_of_content ended (response_of_head h (request_head_sent m)) (content_by_framing max (sent_framing (response_has_no_content h m.status) m.content) ended u)) left
     ∙ ap (reading_of_content ended (response_of_head h (request_head_sent m))) (behind.body ended)
     ∙ ap (λ r. Spelled r rest) (response_sent h m behind.content writable behind.same) in (
       [],
       bytes,
       refl,
-      subst (λ (o : Option ℕ). FinalReadsByHeadLength max h ended bytes o (Spelled (response_as_read_back h m) rest)) (sym (head_ends h m writable rest)) (
+      subst (λ (o : Option ℕ). FinalResponseReadsByHeadLength max h ended bytes o (Spelled (response_as_read_back h m) rest)) (sym (head_ends h m writable rest)) (
         Ok (request_head_sent m),
         subst (λ (u : List ℕ). ResponseHeadIsJudged u (Ok (request_head_sent m))) (sym front) (written_head m, read.0, sym read.1),
         final_status m.status writable.status.0,

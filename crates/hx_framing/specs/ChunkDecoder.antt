@@ -20,8 +20,8 @@ abbrev pub DataPhaseNeedsBytes : ChunkPhase → ℕ → Type 0
 DataPhaseNeedsBytes at need = at ≡ phase.Data → 0 < need
 
 -- with no line begun
-abbrev pub decoder_of_state : ChunkState → List ℕ → ChunkDecoder
-decoder_of_state place content = record {
+abbrev pub chunk_decoder_with_empty_line : ChunkState → List ℕ → ChunkDecoder
+chunk_decoder_with_empty_line place content = record {
   phase = place.phase;
   need = place.need;
   left = place.left;

@@ -32,9 +32,9 @@ pub record LineEndsInCr (line : List ℕ) : Type 0 where
   pub ends : line ≡ text ++ 13 ∷ []
 
 -- trailer lines, and what follows them
-abbrev pub trailer_lines_text : List (List ℕ) → List ℕ → List ℕ
-trailer_lines_text [] rest = rest
-trailer_lines_text (line ∷ lines) rest = line ++ 13 ∷ 10 ∷ trailer_lines_text lines rest
+abbrev pub trailer_lines_text_with_rest : List (List ℕ) → List ℕ → List ℕ
+trailer_lines_text_with_rest [] rest = rest
+trailer_lines_text_with_rest (line ∷ lines) rest = line ++ 13 ∷ 10 ∷ trailer_lines_text_with_rest lines rest
 
 abbrev pub trailer_lines_length : List (List ℕ) → ℕ
 trailer_lines_length [] = 0
@@ -53,7 +53,7 @@ pub record IsBegunTrailerSection (bytes : List ℕ) (lines : List (List ℕ)) (l
   pub size : ChunkSizeLineSpellsSize last 0
   pub each : AllByRecursion IsTrailerLine lines
   pub one_line : has_no_lf line ≡ true
-  pub parts : bytes ≡ last ++ 13 ∷ 10 ∷ trailer_lines_text lines (line ++ rest)
+  pub parts : bytes ≡ last ++ 13 ∷ 10 ∷ trailer_lines_text_with_rest lines (line ++ rest)
 
 -- sum: how much content stands in front; the bytes that follow deviate so
 abbrev pub BytesStartWithChunkDeviation : ℕ → ℕ → List ℕ → ChunkDeviation → FrameFault → Type 0

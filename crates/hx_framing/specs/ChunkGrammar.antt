@@ -1,6 +1,6 @@
 -- Which bytes spell content in chunks (RFC 9112, section 7.1), as trees and what they print.
 --
--- chunked_body_text: chunked-body = *chunk last-chunk trailer-section CRLF
+-- chunked_body_text_with_rest: chunked-body = *chunk last-chunk trailer-section CRLF
 -- data_of_chunks: the data of the chunks in order
 use Rattle.std.specs.Prelude.{◌≡◌, ℕ, ◌+◌, ◌<◌, ◌≤◌, Bool, true, not, List, [], ◌∷◌, ◌++◌, length, ◌==◌}
 use Rattle.std.specs.List.{list_all, AllByRecursion}
@@ -65,5 +65,6 @@ pub record IsChunkedBody (max_body : ℕ) (body : ChunkedBody) : Type 0 where
   pub content_fits : length (data_of_chunks body.chunks) ≤ max_body
 
 -- its bytes, and what follows
-abbrev pub chunked_body_text : ChunkedBody → List ℕ → List ℕ
-chunked_body_text body rest = chunks_text body.chunks (body.last ++ 13 ∷ 10 ∷ trailer_section_text body.trailers rest)
+abbrev pub chunked_body_text_with_rest : ChunkedBody → List ℕ → List ℕ
+chunked_body_text_with_rest body rest = chunks_text body.chunks
+    (body.last ++ 13 ∷ 10 ∷ trailer_section_text body.trailers rest)

@@ -5,8 +5,8 @@ use Rattle.hx_framing.specs.declared.contents.chunk_tokens.ChunkToken.{ChunkToke
 use Rattle.hx_framing.specs.declared.contents.chunk_tokens.ChunkToken.TheVariants as token
 use Rattle.hx_framing.specs.Body.{Bad, Whole}
 use Rattle.hx_framing.specs.ChunkGrammar.{has_no_lf}
-use Rattle.hx_framing.specs.ChunkDecoder.{ChunkDecoder, DataPhaseNeedsBytes, decoder_of_state}
-use Rattle.hx_framing.specs.Chunks.{most_trailer_bytes, content_from_decoder, decoder_after_bytes}
+use Rattle.hx_framing.specs.ChunkDecoder.{ChunkDecoder, DataPhaseNeedsBytes, chunk_decoder_with_empty_line}
+use Rattle.hx_framing.specs.Chunks.{most_trailer_bytes, chunks_decoded_from_state, decoder_after_bytes}
 
 -- the first LF stands at this index, below the limit
 pub record IsIndexOfFirstLineFeed (bytes : List ℕ) (limit at : ℕ) : Type 0 where
@@ -24,23 +24,25 @@ pub record IsUnfinishedLine (s : ChunkDecoder) (bytes : List ℕ) : Type 0 where
 -- in a state, with the content old; new is the content behind the token
 abbrev pub ChunkTokenIsTaken : ChunkState → List ℕ → List ℕ → List ℕ → ChunkToken → Type 0
 ChunkTokenIsTaken place old bytes new token.Incomplete =
-    (new ≡ old) × IsUnfinishedLine (decoder_of_state place old) bytes
+    (new ≡ old) × IsUnfinishedLine (chunk_decoder_with_empty_line place old) bytes
 ChunkTokenIsTaken place old bytes new (token.Whole n next) =
     (n ≤ length bytes)
     × (0 < n)
     × DataPhaseNeedsBytes next.phase next.need
-    × (decoder_after_bytes (take n bytes) (decoder_of_state place old) ≡ Some (decoder_of_state next new))
+    × (decoder_after_bytes (take n bytes) (chunk_decoder_with_empty_line place old)
+    ≡ Some (chunk_decoder_with_empty_line next new))
 ChunkTokenIsTaken place old bytes new (token.Last n) =
     (n ≤ length bytes)
     × (0 < n)
-    × ((more : List ℕ) → content_from_decoder (bytes ++ more) (decoder_of_state place old) ≡ Whole (Some new)
+    × ((more : List ℕ) → chunks_decoded_from_state (bytes ++ more) (chunk_decoder_with_empty_line place old)
+    ≡ Whole (Some new)
     (drop n bytes ++ more))
 ChunkTokenIsTaken place old bytes new (token.Faulty f) =
-    (more : List ℕ) → content_from_decoder (bytes ++ more) (decoder_of_state place old) ≡ Bad f
+    (more : List ℕ) → chunks_decoded_from_state (bytes ++ more) (chunk_decoder_with_empty_line place old) ≡ Bad f
 
 -- how many bytes were taken
-abbrev pub chunk_token_length : ChunkToken → ℕ
-chunk_token_length token.Incomplete = 0
-chunk_token_length (token.Whole n next) = n
-chunk_token_length (token.Last n) = n
-chunk_token_length (token.Faulty f) = 0
+abbrev pub bytes_taken_by_chunk_token : ChunkToken → ℕ
+bytes_taken_by_chunk_token token.Incomplete = 0
+bytes_taken_by_chunk_token (token.Whole n next) = n
+bytes_taken_by_chunk_token (token.Last n) = n
+bytes_taken_by_chunk_token (token.Faulty f) = 0

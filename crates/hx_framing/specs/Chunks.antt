@@ -1,8 +1,8 @@
 -- Content in chunks, a byte at a time (RFC 9112, section 7.1): where a fault is judged, and what the content is.
 -- Which bytes spell which content is said without a state in ChunkGrammar.
 --
--- chunked_content: the content at the front of the bytes
--- content_from_decoder: the same, from a state on
+-- decoded_chunked_content: the content at the front of the bytes
+-- chunks_decoded_from_state: the same, from a state on
 -- chunk_step: what a byte does
 -- decoder_after_bytes: the state behind the bytes
 use Rattle.std.specs.Prelude.{ℕ, ◌+◌, ◌-◌, cond, List, [], ◌∷◌, ◌++◌, length, ◌==◌, nat_lt, Option, Some, None, Result}
@@ -25,15 +25,15 @@ pub data ChunkStep : Type 0 where
   Stop : List ℕ → ChunkStep
   Fail : FrameFault → ChunkStep
 
-abbrev pub decoder_with_line : ChunkDecoder → ChunkPhase → List ℕ → ChunkDecoder
-decoder_with_line s phase line = record s { phase = phase; line = line }
+abbrev pub decoder_with_phase_and_line : ChunkDecoder → ChunkPhase → List ℕ → ChunkDecoder
+decoder_with_phase_and_line s phase line = record s { phase = phase; line = line }
 
 -- behind a size line: a size of 0 is that of the last chunk
 abbrev pub step_after_size_line : ChunkDecoder → Result ℕ FrameFault → ChunkStep
 step_after_size_line s (Err f) = Fail f
 step_after_size_line s (Ok n) =
     cond (n == 0)
-    (Go (decoder_with_line s phase.Trailers []))
+    (Go (decoder_with_phase_and_line s phase.Trailers []))
     (Go (record s { phase = phase.Data; line = []; need = n; left = s.left - n }))
 
 -- a size line is judged at its LF, or at the first byte past the longest
@@ -41,7 +41,8 @@ abbrev pub step_in_size_line : ChunkDecoder → ℕ → ChunkStep
 step_in_size_line s b =
     cond (b == 10)
     (step_after_size_line s (chunk_size_of_line s.line s.left))
-    (cond (nat_lt (length s.line) most_chunk_size_line_bytes) (Go (decoder_with_line s phase.Size (s.line ++ b ∷ [])))
+    (cond (nat_lt (length s.line) most_chunk_size_line_bytes) (Go
+    (decoder_with_phase_and_line s phase.Size (s.line ++ b ∷ [])))
     (Fail fault.Chunk))
 
 abbrev pub step_in_data : ChunkDecoder → ℕ → ChunkStep
@@ -56,8 +57,8 @@ step_in_data s b =
 abbrev pub step_in_data_end : ChunkDecoder → ℕ → ChunkStep
 step_in_data_end s b =
     cond (length s.line == 0)
-    (cond (b == 13) (Go (decoder_with_line s phase.DataEnd (b ∷ []))) (Fail fault.Chunk))
-    (cond (b == 10) (Go (decoder_with_line s phase.Size [])) (Fail fault.Chunk))
+    (cond (b == 13) (Go (decoder_with_phase_and_line s phase.DataEnd (b ∷ []))) (Fail fault.Chunk))
+    (cond (b == 10) (Go (decoder_with_phase_and_line s phase.Size [])) (Fail fault.Chunk))
 
 -- the LF of a trailer line, or of the empty line behind the trailers (RFC 9112, section 7.1.2)
 -- own: what a trailer line holds before its CRLF isn't judged
@@ -70,7 +71,7 @@ step_after_trailer_line s =
 abbrev pub step_in_trailers : ChunkDecoder → ℕ → ChunkStep
 step_in_trailers s b =
     cond (nat_lt (s.used + length s.line) most_trailer_bytes)
-    (cond (b == 10) (step_after_trailer_line s) (Go (decoder_with_line s phase.Trailers (s.line ++ b ∷ []))))
+    (cond (b == 10) (step_after_trailer_line s) (Go (decoder_with_phase_and_line s phase.Trailers (s.line ++ b ∷ []))))
     (Fail fault.Chunk)
 
 abbrev pub step_in_phase : ChunkPhase → ChunkDecoder → ℕ → ChunkStep
@@ -89,9 +90,9 @@ content_after_step (Stop content) run rest = Whole (Some content) rest
 content_after_step (Fail f) run rest = Bad f
 
 -- the bytes, one after another
-abbrev pub content_from_decoder : List ℕ → ChunkDecoder → ContentParseResult
-content_from_decoder [] s = Short
-content_from_decoder (b ∷ bytes) s = content_after_step (chunk_step s b) (content_from_decoder bytes) bytes
+abbrev pub chunks_decoded_from_state : List ℕ → ChunkDecoder → ContentParseResult
+chunks_decoded_from_state [] s = Short
+chunks_decoded_from_state (b ∷ bytes) s = content_after_step (chunk_step s b) (chunks_decoded_from_state bytes) bytes
 
 -- what comes of a step, where run says which state comes of the state behind it
 abbrev pub decoder_after_step : ChunkStep → (ChunkDecoder → Option ChunkDecoder) → Option ChunkDecoder
@@ -109,5 +110,5 @@ abbrev pub decoder_at_start : ℕ → ChunkDecoder
 decoder_at_start max_body = record { phase = phase.Size; need = 0; left = max_body; used = 0; content = []; line = [] }
 
 -- content in chunks of at most max_body bytes
-abbrev pub chunked_content : ℕ → List ℕ → ContentParseResult
-chunked_content max_body bytes = content_from_decoder bytes (decoder_at_start max_body)
+abbrev pub decoded_chunked_content : ℕ → List ℕ → ContentParseResult
+decoded_chunked_content max_body bytes = chunks_decoded_from_state bytes (decoder_at_start max_body)

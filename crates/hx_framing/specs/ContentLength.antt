@@ -1,9 +1,9 @@
 -- The length that Content-Length lines tell (RFC 9110, section 8.6, and RFC 9112, section 6.3).
 --
 -- listed_lengths: what the lines list
--- number_of_equal_texts: the number that texts of digits are
+-- number_spelled_by_all: the number that texts of digits are
 -- announced_length: the length
--- announced_length_up_to, announced_length_within: the length within a limit
+-- announced_length_up_to_or_fault, announced_length_within: the length within a limit
 -- without_leading_zeros, is_text_of_same_number: a number compared by its digits, so that it may have any size
 use Rattle.std.specs.Prelude.{ℕ, ◌&&◌, Bool, cond, List, [], ◌∷◌, map, drop, bytes_eq, Option, Some, None, Result, Ok}
 use Rattle.std.specs.Prelude.{Err, nat_le, ◌==◌, codes}
@@ -37,20 +37,20 @@ abbrev pub is_text_of_number : ℕ → List ℕ → Bool
 is_text_of_number n text = digits_value 10 text == n
 
 -- the number that all the texts are, if they are digits and one number
-abbrev pub number_of_equal_texts : List (List ℕ) → Option ℕ
-number_of_equal_texts [] = None
-number_of_equal_texts (text ∷ texts) =
+abbrev pub number_spelled_by_all : List (List ℕ) → Option ℕ
+number_spelled_by_all [] = None
+number_spelled_by_all (text ∷ texts) =
     cond (list_all is_digits (text ∷ texts) && list_all (is_text_of_number (digits_value 10 text)) texts)
     (Some (digits_value 10 text)) None
 
 -- the length that the lines tell: one number, however often it is listed, counts as this number (RFC 9112, section 6.3)
 abbrev pub announced_length : List Field → Option ℕ
-announced_length fields = number_of_equal_texts (listed_lengths fields)
+announced_length fields = number_spelled_by_all (listed_lengths fields)
 
 -- the length, if one is told and it is at most so much
-abbrev pub announced_length_up_to : ℕ → Option ℕ → Result ℕ FrameFault
-announced_length_up_to most None = Err fault.Length
-announced_length_up_to most (Some n) = cond (nat_le n most) (Ok n) (Err fault.TooLarge)
+abbrev pub announced_length_up_to_or_fault : ℕ → Option ℕ → Result ℕ FrameFault
+announced_length_up_to_or_fault most None = Err fault.Length
+announced_length_up_to_or_fault most (Some n) = cond (nat_le n most) (Ok n) (Err fault.TooLarge)
 
 abbrev pub announced_length_within : ℕ → Option ℕ → Option ℕ
 announced_length_within most None = None

@@ -4,7 +4,7 @@ use Rattle.hx_framing.specs.declared.contents.chunk_tokens.ChunkProgress.{ChunkP
 use Rattle.hx_framing.specs.declared.contents.chunk_tokens.ChunkProgress.TheVariants as chunk_progress
 use Rattle.hx_framing.specs.Body.{Short, Bad, Whole}
 use Rattle.hx_framing.specs.ChunkDecoder.{ChunkDecoder}
-use Rattle.hx_framing.specs.Chunks.{content_from_decoder, decoder_after_bytes}
+use Rattle.hx_framing.specs.Chunks.{chunks_decoded_from_state, decoder_after_bytes}
 use Rattle.hx_framing.specs.ChunkTokens.{IsUnfinishedLine}
 
 -- from the state old: Incomplete: the bytes lead to the state new and then into a line, or the CRLF
@@ -13,13 +13,16 @@ use Rattle.hx_framing.specs.ChunkTokens.{IsUnfinishedLine}
 abbrev pub ChunksAreDecoded : ChunkDecoder → List ℕ → ChunkDecoder → ChunkProgress → Type 0
 ChunksAreDecoded old bytes new (chunk_progress.Incomplete n) =
     (n ≤ length bytes)
-    × ((more : List ℕ) → content_from_decoder (bytes ++ more) old ≡ content_from_decoder (drop n bytes ++ more) new)
-    × (content_from_decoder (drop n bytes) new ≡ Short)
+    × ((more : List ℕ) → chunks_decoded_from_state (bytes ++ more) old
+    ≡ chunks_decoded_from_state (drop n bytes ++ more) new)
+    × (chunks_decoded_from_state (drop n bytes) new ≡ Short)
     × (decoder_after_bytes bytes old ≡ Some (record new { line = drop n bytes }))
     × IsUnfinishedLine new (drop n bytes)
 ChunksAreDecoded old bytes new (chunk_progress.Whole n) =
     (n ≤ length bytes)
     × (0 < n)
-    × ((more : List ℕ) → content_from_decoder (bytes ++ more) old ≡ Whole (Some new.content) (drop n bytes ++ more))
-ChunksAreDecoded old bytes new (chunk_progress.Faulty f) = (more : List ℕ) → content_from_decoder (bytes ++ more) old
+    × ((more : List ℕ) → chunks_decoded_from_state (bytes ++ more) old
+    ≡ Whole (Some new.content) (drop n bytes ++ more))
+ChunksAreDecoded old bytes new (chunk_progress.Faulty f) = (more : List ℕ)
+    → chunks_decoded_from_state (bytes ++ more) old
     ≡ Bad f

@@ -69,15 +69,16 @@ pub record LineSpellsRequestLine (line : List ℕ) (head : Head) : Type 0 where
 
 -- a space and the phrase, or nothing
 -- own: the space may be left out with the phrase
-abbrev pub reason_phrase_text : Option (List ℕ) → List ℕ
-reason_phrase_text None = []
-reason_phrase_text (Some phrase) = 32 ∷ phrase
+abbrev pub space_and_reason_phrase_if_any : Option (List ℕ) → List ℕ
+space_and_reason_phrase_if_any None = []
+space_and_reason_phrase_if_any (Some phrase) = 32 ∷ phrase
 
 -- status-line = HTTP-version SP status-code SP [ reason-phrase ], with status-code = 3DIGIT (RFC 9112, section 4)
 pub record LineSpellsStatusLine (line : List ℕ) (head : StatusHead) : Type 0 where
   pub digits : List ℕ
   pub phrase : Option (List ℕ)
-  pub parts : without_trailing_cr line ≡ version_text head.minor ++ 32 ∷ (digits ++ reason_phrase_text phrase)
+  pub parts : without_trailing_cr line ≡ version_text head.minor ++ 32
+      ∷ (digits ++ space_and_reason_phrase_if_any phrase)
   pub three : length digits ≡ 3
   pub are_digits : list_all is_ascii_digit digits ≡ true
   pub status : head.status ≡ digits_value 10 digits

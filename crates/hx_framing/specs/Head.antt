@@ -44,11 +44,12 @@ IsHeadOfRequest bytes h = ReadsRequest bytes h [] × (length h.fields ≤ most_f
 
 -- the fault of bytes that are no head: Version takes the place of Head where the request line ends with another version
 -- own: whatever else is wrong with the head
-abbrev pub request_head_fault : List ℕ → FrameFault
-request_head_fault bytes
+abbrev pub fault_of_bad_request_head : List ℕ → FrameFault
+fault_of_bad_request_head bytes
     = if ends_with_unsupported_version (without_trailing_cr (start_line bytes)) then fault.Version else fault.Head
 
 -- how the bytes of a whole head are judged
 abbrev pub RequestHeadIsJudged : List ℕ → Result Head FrameFault → Type 0
 RequestHeadIsJudged bytes (Ok head) = (h : RequestHead) × IsHeadOfRequest bytes h × (head ≡ head_of_parsed_request h)
-RequestHeadIsJudged bytes (Err f) = ((h : RequestHead) → ¬ (IsHeadOfRequest bytes h)) × (f ≡ request_head_fault bytes)
+RequestHeadIsJudged bytes (Err f) =
+    ((h : RequestHead) → ¬ (IsHeadOfRequest bytes h)) × (f ≡ fault_of_bad_request_head bytes)

@@ -33,7 +33,7 @@ abbrev pub is_empty_line : List ℕ → Bool
 is_empty_line line = bytes_eq (without_trailing_cr line) []
 
 -- behind the start line stand the field lines, in order, and an empty line that ends the head
-pub record HeadHasFieldLines (bytes : List ℕ) (fields : List Field) : Type 0 where
+pub record HeadHasFieldLinesOfNames (bytes : List ℕ) (fields : List Field) : Type 0 where
   pub lines : List (List ℕ)
   pub last : List ℕ
   pub are : lines_behind_start_line bytes ≡ lines ++ last ∷ [] ∷ []

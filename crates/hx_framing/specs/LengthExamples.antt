@@ -31,18 +31,18 @@ response_head status minor fields = record { status = status; minor = minor; fie
 abbrev pub request_framing_of_put : ℕ → List Field → Result RequestFraming FrameFault
 request_framing_of_put minor fields = request_framing_of 1000 (request_head minor fields)
 
-abbrev pub framing_of_status : ℕ → ℕ → List Field → Result Framing FrameFault
-framing_of_status status minor fields = framing_of_response 1000 false (response_head status minor fields)
+abbrev pub framing_of_response_with : ℕ → ℕ → List Field → Result Framing FrameFault
+framing_of_response_with status minor fields = framing_of_response 1000 false (response_head status minor fields)
 
 abbrev pub framing_of_answer_to_head : ℕ → List Field → Result Framing FrameFault
 framing_of_answer_to_head status fields = framing_of_response 1000 true (response_head status 1 fields)
 
 -- a content that waits for no continue
-abbrev pub framing_without_continue : Framing → Result RequestFraming FrameFault
-framing_without_continue shown = Ok (record { framing = shown; wants_continue = false })
+abbrev pub framing_that_wants_no_continue : Framing → Result RequestFraming FrameFault
+framing_that_wants_no_continue shown = Ok (record { framing = shown; wants_continue = false })
 
 abbrev pub framing_of_length : ℕ → Result RequestFraming FrameFault
-framing_of_length n = framing_without_continue (framing.Announced n)
+framing_of_length n = framing_that_wants_no_continue (framing.Announced n)
 
 -- a content that waits for a continue
 abbrev pub framing_with_continue : Framing → Result RequestFraming FrameFault

@@ -1,11 +1,12 @@
 -- How long the content behind a head is, by its fields (RFC 9112, section 6, and RFC 9110, section 10.1.1).
 -- A head's faults are tested in the order of their numbers.
 --
--- has_both_length_fields, has_bad_length, has_endless_coding, has_coding_other_than_chunked, is_too_large,
+-- has_both_length_fields, has_bad_length_fields, has_coding_of_unknown_end, has_coding_other_than_chunked,
+-- is_too_large,
 -- expects_other_than_100_continue: what is
 -- at fault
 -- framing_of_faultless_fields: what faultless length fields say
--- framing_of_lengths, request_framing_of, framing_of_response: how a head is judged
+-- framing_by_length_fields, request_framing_of, framing_of_response: how a head is judged
 -- announced_length_in_answer_to_head, without_length_fields: what a message keeps of its length fields
 -- framing_without_codings, framing_of_codings: the judgement in steps
 use Rattle.std.specs.Prelude.{ℕ, ◌-◌, ◌^◌, ◌&&◌, ◌||◌, Bool, true, false, cond, not, List, [], length, Option, Some}
@@ -21,7 +22,7 @@ use Rattle.hx_framing.specs.declared.lengths.framing.Framing.TheVariants as fram
 use Rattle.hx_framing.specs.declared.lengths.framing.RequestFraming.{RequestFraming}
 use Rattle.hx_framing.specs.declared.heads.request_head.Head.{Head}
 use Rattle.hx_framing.specs.declared.heads.status_head.StatusHead.{StatusHead}
-use Rattle.hx_framing.specs.ContentLength.{content_length_name, announced_length, announced_length_up_to}
+use Rattle.hx_framing.specs.ContentLength.{content_length_name, announced_length, announced_length_up_to_or_fault}
 use Rattle.hx_framing.specs.ContentLength.{announced_length_within}
 
 abbrev pub transfer_encoding_name : List ℕ
@@ -39,8 +40,8 @@ abbrev pub is_chunked : List ℕ → Bool
 is_chunked coding = is_same_name coding (codes "chunked")
 
 -- the last coding is chunked, and no other is
-abbrev pub last_coding_is_chunked : List (List ℕ) → Bool
-last_coding_is_chunked names
+abbrev pub only_last_coding_is_chunked : List (List ℕ) → Bool
+only_last_coding_is_chunked names
     = is_chunked (slice_index_or names (length names - 1) []) && (count_by is_chunked names == 1)
 
 -- chunked is the only coding
@@ -52,15 +53,16 @@ abbrev pub has_both_length_fields : List Field → Bool
 has_both_length_fields fields = has_field fields transfer_encoding_name && has_field fields content_length_name
 
 -- HTTP/1.0 knows no transfer coding, or Content-Length tells no length (RFC 9112, sections 6.1 and 6.3)
-abbrev pub has_bad_length : ℕ → List Field → Bool
-has_bad_length minor fields =
+abbrev pub has_bad_length_fields : ℕ → List Field → Bool
+has_bad_length_fields minor fields =
     (has_field fields transfer_encoding_name && (minor == 0)) || (has_field fields content_length_name && not
     (is_some (announced_length fields)))
 
 -- the end of a request's content can't be told from its codings, as where there is none (RFC 9112, section 6.3)
 -- own: or chunked stands twice
-abbrev pub has_endless_coding : List Field → Bool
-has_endless_coding fields = has_field fields transfer_encoding_name && not (last_coding_is_chunked (codings fields))
+abbrev pub has_coding_of_unknown_end : List Field → Bool
+has_coding_of_unknown_end fields =
+    has_field fields transfer_encoding_name && not (only_last_coding_is_chunked (codings fields))
 
 -- own: no coding but chunked is read
 abbrev pub has_coding_other_than_chunked : List Field → Bool
@@ -108,10 +110,10 @@ framing_has_content framing.UntilClose = true
 
 -- how the length fields of a head are judged
 -- neither: what holds where neither stands; endless: the end of the content can't be told from the codings
-abbrev pub framing_of_lengths : ℕ → ℕ → Framing → Bool → List Field → Result Framing FrameFault
-framing_of_lengths max_body minor neither endless fields =
+abbrev pub framing_by_length_fields : ℕ → ℕ → Framing → Bool → List Field → Result Framing FrameFault
+framing_by_length_fields max_body minor neither endless fields =
     cond (has_both_length_fields fields) (Err fault.BothLengths)
-    (cond (has_bad_length minor fields || endless) (Err fault.Length)
+    (cond (has_bad_length_fields minor fields || endless) (Err fault.Length)
     (cond (has_coding_other_than_chunked fields) (Err fault.Coding)
     (cond (is_too_large max_body fields) (Err fault.TooLarge)
     (Ok (framing_of_faultless_fields neither fields)))))
@@ -119,7 +121,7 @@ framing_of_lengths max_body minor neither endless fields =
 -- a request without either field has no content (RFC 9112, section 6.3)
 abbrev pub framing_by_request_fields : ℕ → Head → Result Framing FrameFault
 framing_by_request_fields max_body head =
-    framing_of_lengths max_body head.minor framing.Nothing (has_endless_coding head.fields) head.fields
+    framing_by_length_fields max_body head.minor framing.Nothing (has_coding_of_unknown_end head.fields) head.fields
 
 -- a client that expects a continue waits for it only where it has content to send
 abbrev pub framing_with_expectation : Option (List ℕ) → Result Framing FrameFault → Result RequestFraming FrameFault
@@ -148,7 +150,8 @@ is_accepted_status status = nat_le 100 status && nat_lt status 600 && not (statu
 
 -- the content of a response without either field runs until the connection closes (RFC 9112, section 6.3)
 abbrev pub framing_of_final_response : ℕ → StatusHead → Result Framing FrameFault
-framing_of_final_response max_body head = framing_of_lengths max_body head.minor framing.UntilClose false head.fields
+framing_of_final_response max_body head =
+    framing_by_length_fields max_body head.minor framing.UntilClose false head.fields
 
 -- a status that isn't taken is the last fault
 abbrev pub framing_if_accepted_status : ℕ → Result Framing FrameFault → Result Framing FrameFault
@@ -184,7 +187,7 @@ announced_framing (Err f) = Err f
 abbrev pub framing_by_content_length : ℕ → Framing → List Field → Result Framing FrameFault
 framing_by_content_length max_body neither fields =
     cond (has_field fields content_length_name)
-    (announced_framing (announced_length_up_to max_body (announced_length fields)))
+    (announced_framing (announced_length_up_to_or_fault max_body (announced_length fields)))
     (Ok neither)
 
 -- what is judged of the length fields without their codings, if that is enough
@@ -197,5 +200,5 @@ framing_without_codings max_body minor neither fields =
 -- what codings say where they count; must_end: they have to tell the end of the content
 abbrev pub framing_of_codings : Bool → List (List ℕ) → Result Framing FrameFault
 framing_of_codings must_end names =
-    cond (must_end && not (last_coding_is_chunked names)) (Err fault.Length)
+    cond (must_end && not (only_last_coding_is_chunked names)) (Err fault.Length)
     (cond (is_only_chunked names) (Ok framing.Chunked) (Err fault.Coding))

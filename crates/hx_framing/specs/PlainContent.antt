@@ -7,9 +7,9 @@ pub record PlainContent : Type 0 where
   pub content : List ℕ
 
 -- before the first byte
-abbrev pub empty_plain_content : ℕ → PlainContent
-empty_plain_content left = record { left = left; content = [] }
+abbrev pub plain_content_not_begun : ℕ → PlainContent
+plain_content_not_begun left = record { left = left; content = [] }
 
 -- a run of its bytes has come
-abbrev pub plain_content_with : PlainContent → List ℕ → PlainContent
-plain_content_with s run = record { left = s.left - length run; content = s.content ++ run }
+abbrev pub plain_content_after_bytes : PlainContent → List ℕ → PlainContent
+plain_content_after_bytes s run = record { left = s.left - length run; content = s.content ++ run }

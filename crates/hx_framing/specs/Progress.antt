@@ -3,8 +3,8 @@
 -- Progress: a stream so far and what was given of it
 -- empty_stream_progress, progress_after_piece, progress_after_end, progress_after_answer: how it goes on
 -- next_answer_of_reading: the answer to a reading
--- AnswerIsDue: there is something to do
--- cost_of_answer: what an answer takes of what is to come
+-- ReaderAnswerNeedsAction: there is something to do
+-- weight_used_by_answer: what an answer takes of what is to come
 -- out_of_memory_may_replace: out of memory may stand in place of the answer
 -- is_head_or_version_fault: the fault is that of bytes that are no head
 use Rattle.std.specs.Prelude.{ℕ, Bool, true, false, not, List, [], ◌∷◌, ◌++◌}
@@ -12,7 +12,7 @@ use Rattle.hx_framing.specs.declared.messages.Next.{Next}
 use Rattle.hx_framing.specs.declared.messages.Next.TheVariants as next
 use Rattle.hx_framing.specs.declared.frame_fault.FrameFault.{FrameFault}
 use Rattle.hx_framing.specs.declared.frame_fault.FrameFault.TheVariants as fault
-use Rattle.hx_framing.specs.Reading.{StreamReading, Incomplete, Continue, Over, Spelled, Faulty}
+use Rattle.hx_framing.specs.Reading.{StreamReadResult, Incomplete, Continue, Over, Spelled, Faulty}
 
 -- max_body, to_head: the most content in bytes, and whether it answers a HEAD
 -- stream, ended: its bytes so far, and whether more may come
@@ -38,7 +38,7 @@ abbrev pub progress_after_end : {M : Type 0} → Progress M → Progress M
 progress_after_end p = record p { ended = true }
 
 -- what is answered where that is read
-abbrev pub next_answer_of_reading : {M : Type 0} → StreamReading M → Next M
+abbrev pub next_answer_of_reading : {M : Type 0} → StreamReadResult M → Next M
 next_answer_of_reading Incomplete = next.More
 next_answer_of_reading Continue = next.NeedsContinue
 next_answer_of_reading Over = next.End
@@ -54,20 +54,20 @@ progress_after_answer p (next.Refused f) = p
 progress_after_answer p next.End = p
 
 -- there is something to do
-abbrev pub AnswerIsDue : {M : Type 0} → Next M → Type 0
-AnswerIsDue next.More = ⊥
-AnswerIsDue next.NeedsContinue = Unit {0}
-AnswerIsDue (next.Message m) = Unit {0}
-AnswerIsDue (next.Refused f) = Unit {0}
-AnswerIsDue next.End = Unit {0}
+abbrev pub ReaderAnswerNeedsAction : {M : Type 0} → Next M → Type 0
+ReaderAnswerNeedsAction next.More = ⊥
+ReaderAnswerNeedsAction next.NeedsContinue = Unit {0}
+ReaderAnswerNeedsAction (next.Message m) = Unit {0}
+ReaderAnswerNeedsAction (next.Refused f) = Unit {0}
+ReaderAnswerNeedsAction next.End = Unit {0}
 
 -- what an answer takes of what is still to come
-abbrev pub cost_of_answer : {M : Type 0} → Next M → ℕ
-cost_of_answer next.More = 0
-cost_of_answer next.NeedsContinue = 1
-cost_of_answer (next.Message m) = 1
-cost_of_answer (next.Refused f) = 0
-cost_of_answer next.End = 0
+abbrev pub weight_used_by_answer : {M : Type 0} → Next M → ℕ
+weight_used_by_answer next.More = 0
+weight_used_by_answer next.NeedsContinue = 1
+weight_used_by_answer (next.Message m) = 1
+weight_used_by_answer (next.Refused f) = 0
+weight_used_by_answer next.End = 0
 
 -- no head stands there, or one of another version: the bytes tell, before anything is copied
 abbrev pub is_head_or_version_fault : FrameFault → Bool

@@ -3,7 +3,7 @@ use Rattle.std.specs.Prelude.{ℕ, ◌≤◌, Bool, List, length}
 use Rattle.hx_framing.specs.declared.readers.progress.ReaderPhase.{ReaderPhase}
 use Rattle.hx_framing.specs.declared.readers.progress.ReaderPhase.TheVariants as phase
 use Rattle.hx_framing.specs.HeadEnd.{IsUnfinishedHead, most_head_bytes}
-use Rattle.hx_framing.specs.Contents.{IsUnfinishedContent}
+use Rattle.hx_framing.specs.Contents.{IsRestOfUnfinishedContent}
 
 -- what contracts see of a reader; H: the heads of its messages
 -- to_head: its message answers a HEAD; spare: how many more bytes find room without new memory
@@ -22,7 +22,7 @@ kept s = s.unread
 -- what is begun there: a head, or a line of a content or the CRLF behind data; whatever was whole is taken
 abbrev pub BytesAreUnfinishedPart : {H : Type 0} → ReaderPhase H → List ℕ → Type 0
 BytesAreUnfinishedPart phase.BeforeHead bytes = IsUnfinishedHead bytes
-BytesAreUnfinishedPart (phase.InContent head content) bytes = IsUnfinishedContent content bytes
+BytesAreUnfinishedPart (phase.InContent head content) bytes = IsRestOfUnfinishedContent content bytes
 BytesAreUnfinishedPart phase.Given bytes = ⊥
 BytesAreUnfinishedPart (phase.Faulty f) bytes = ⊥
 

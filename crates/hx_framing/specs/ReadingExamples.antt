@@ -5,29 +5,29 @@ use Rattle.hx_fields.specs.Line.{Field}
 use Rattle.hx_fields.specs.Examples.{line}
 use Rattle.hx_framing.specs.declared.messages.Request.{Request}
 use Rattle.hx_framing.specs.declared.messages.Response.{Response}
-use Rattle.hx_framing.specs.Reading.{StreamReading}
+use Rattle.hx_framing.specs.Reading.{StreamReadResult}
 use Rattle.hx_framing.specs.Progress.{Progress}
 use Rattle.hx_framing.specs.RequestReading as request
 use Rattle.hx_framing.specs.ResponseReading as response
 
 -- a request stream that goes on, one that ends, and one whose continue was given
-abbrev pub request_stream_reads : List ℕ → StreamReading Request → Type 0
+abbrev pub request_stream_reads : List ℕ → StreamReadResult Request → Type 0
 request_stream_reads bytes reading = request.ReadsAs 1000 false false bytes reading
 
-abbrev pub ended_request_stream_reads : List ℕ → StreamReading Request → Type 0
+abbrev pub ended_request_stream_reads : List ℕ → StreamReadResult Request → Type 0
 ended_request_stream_reads bytes reading = request.ReadsAs 1000 true false bytes reading
 
-abbrev pub continued_request_stream_reads : List ℕ → StreamReading Request → Type 0
-continued_request_stream_reads bytes reading = request.ReadsAs 1000 false true bytes reading
+abbrev pub request_stream_reads_after_continue : List ℕ → StreamReadResult Request → Type 0
+request_stream_reads_after_continue bytes reading = request.ReadsAs 1000 false true bytes reading
 
 -- a response stream that goes on, one that ends, and one that answers a HEAD
-abbrev pub response_stream_reads : List ℕ → StreamReading Response → Type 0
+abbrev pub response_stream_reads : List ℕ → StreamReadResult Response → Type 0
 response_stream_reads bytes reading = response.ReadsAs 1000 false false bytes reading
 
-abbrev pub ended_response_stream_reads : List ℕ → StreamReading Response → Type 0
+abbrev pub ended_response_stream_reads : List ℕ → StreamReadResult Response → Type 0
 ended_response_stream_reads bytes reading = response.ReadsAs 1000 false true bytes reading
 
-abbrev pub head_response_stream_reads : List ℕ → StreamReading Response → Type 0
+abbrev pub head_response_stream_reads : List ℕ → StreamReadResult Response → Type 0
 head_response_stream_reads bytes reading = response.ReadsAs 1000 true false bytes reading
 
 -- ---- RFC 9110, section 3.9
@@ -77,8 +77,8 @@ put_request_read fields content =
     record { method = codes "PUT"; target = codes "/a"; minor = 1; fields = fields; content = content }
 
 -- a response with these lines
-abbrev pub ok_response_with : List ℕ → List ℕ
-ok_response_with lines = codes "HTTP/1.1 200 OK\r\n" ++ lines ++ codes "\r\n"
+abbrev pub ok_response_text_with_lines : List ℕ → List ℕ
+ok_response_text_with_lines lines = codes "HTTP/1.1 200 OK\r\n" ++ lines ++ codes "\r\n"
 
 abbrev pub response_with : ℕ → List Field → List ℕ → Option ℕ → Response
 response_with status fields content announced =
@@ -121,8 +121,8 @@ abbrev pub put_request_of_hi : Request
 put_request_of_hi = put_request_read [] (Some (codes "hi"))
 
 -- a stream of requests, whether it has ended, what was given of it, and whether the next continue was
-abbrev pub request_progress : Bool → List ℕ → Bool → List Request → Bool → Progress Request
-request_progress to_head stream ended given continue_sent =
+abbrev pub example_request_progress : Bool → List ℕ → Bool → List Request → Bool → Progress Request
+example_request_progress to_head stream ended given continue_sent =
     record {
       max_body = 1000;
       to_head = to_head;

@@ -3,33 +3,34 @@ use Rattle.std.specs.Prelude.{◌≡◌, ℕ, Bool, true, false, List, take, dro
 use Rattle.hx_framing.specs.declared.heads.request_head.Head.{Head}
 use Rattle.hx_framing.specs.declared.messages.Request.{Request}
 use Rattle.hx_framing.specs.declared.contents.content.Content.{Content}
-use Rattle.hx_framing.specs.declared.readers.progress.HeadProgress.{HeadProgress}
-use Rattle.hx_framing.specs.declared.readers.progress.HeadProgress.TheVariants as head_progress
-use Rattle.hx_framing.specs.Contents.{IsUnfinishedContent}
-use Rattle.hx_framing.specs.ContentReading.{IsIndexBehindBytes, ContentResumesAs}
+use Rattle.hx_framing.specs.declared.readers.progress.MessageProgress.{MessageProgress}
+use Rattle.hx_framing.specs.declared.readers.progress.MessageProgress.TheVariants as head_progress
+use Rattle.hx_framing.specs.Contents.{IsRestOfUnfinishedContent}
+use Rattle.hx_framing.specs.ContentReading.{IsIndexBehindSomeBytes, MessageReadsByResumedContent}
 use Rattle.hx_framing.specs.HeadEnd.{head_length, most_head_bytes, IsUnfinishedHead}
 use Rattle.hx_framing.specs.Head.{RequestHeadIsJudged}
 use Rattle.hx_framing.specs.Reading.{Incomplete, Continue, Over, Spelled, Faulty}
 use Rattle.hx_framing.specs.RequestReading.{request_of_head, ReadsAs}
 
 -- whatever comes, the bytes read as this head with what the unread ones make of its content
-abbrev pub RequestContentResumes : ℕ → Bool → Head → Content → List ℕ → List ℕ → Type 0
-RequestContentResumes max_body continue_sent head content bytes unread = ContentResumesAs {M = Request}
+abbrev pub RequestReadsByResumedContent : ℕ → Bool → Head → Content → List ℕ → List ℕ → Type 0
+RequestReadsByResumedContent max_body continue_sent head content bytes unread = MessageReadsByResumedContent
+    {M = Request}
     (λ ended. ReadsAs max_body ended continue_sent) (request_of_head head) (λ ended. false) content bytes unread
 
 -- it is what the bytes read as, before a continue was given
-abbrev pub IsProgressOfBytes : ℕ → Bool → List ℕ → HeadProgress Head Request → Type 0
+abbrev pub IsProgressOfBytes : ℕ → Bool → List ℕ → MessageProgress Head Request → Type 0
 IsProgressOfBytes max_body ended bytes (head_progress.Incomplete n) =
     (n ≡ 0) × ReadsAs max_body ended false bytes Incomplete × IsUnfinishedHead bytes
 IsProgressOfBytes max_body ended bytes (head_progress.NeedsContinue head content n) =
-    IsIndexBehindBytes bytes n × ReadsAs max_body ended false bytes Continue
-    × RequestContentResumes max_body true head content bytes (drop n bytes)
+    IsIndexBehindSomeBytes bytes n × ReadsAs max_body ended false bytes Continue
+    × RequestReadsByResumedContent max_body true head content bytes (drop n bytes)
 IsProgressOfBytes max_body ended bytes (head_progress.InContent head content n) =
-    IsIndexBehindBytes bytes n × ReadsAs max_body ended false bytes Incomplete
-    × RequestContentResumes max_body false head content bytes (drop n bytes)
-    × IsUnfinishedContent content (drop n bytes)
+    IsIndexBehindSomeBytes bytes n × ReadsAs max_body ended false bytes Incomplete
+    × RequestReadsByResumedContent max_body false head content bytes (drop n bytes)
+    × IsRestOfUnfinishedContent content (drop n bytes)
 IsProgressOfBytes max_body ended bytes (head_progress.Message m n) =
-    IsIndexBehindBytes bytes n × ReadsAs max_body ended false bytes (Spelled m (drop n bytes))
+    IsIndexBehindSomeBytes bytes n × ReadsAs max_body ended false bytes (Spelled m (drop n bytes))
 IsProgressOfBytes max_body ended bytes (head_progress.Faulty f) = ReadsAs max_body ended false bytes (Faulty f)
 IsProgressOfBytes max_body ended bytes head_progress.Ended = ReadsAs max_body ended false bytes Over
 

@@ -8,7 +8,8 @@ use Rattle.hx_framing.specs.Reading.{Faulty}
 use Rattle.hx_framing.specs.ReaderKind.{ReaderKind}
 use Rattle.hx_framing.specs.ReaderState.{ReaderState}
 use Rattle.hx_framing.specs.RequestReading.{request_of_head, ReadsAs}
-use Rattle.hx_framing.specs.RequestHeadProgress.{RequestContentResumes, IsProgressOfBytes, BytesBeginWithRequestHead}
+use Rattle.hx_framing.specs.RequestHeadProgress.{RequestReadsByResumedContent, IsProgressOfBytes}
+use Rattle.hx_framing.specs.RequestHeadProgress.{BytesBeginWithRequestHead}
 use Rattle.hx_framing.specs.RequestStream.{StreamSpells, Answers, OutOfMemoryIsAllowed}
 use Rattle.hx_framing.specs.Progress.{Progress}
 
@@ -18,20 +19,20 @@ State = ReaderState Head
 
 -- before a head the reader keeps what follows the messages given; in a content it keeps what is still to come of it;
 -- from a fault on the stream has that fault there
-abbrev pub RequestReaderKeeps : State → Progress Request → List ℕ → ReaderPhase Head → Type 0
-RequestReaderKeeps s p rest phase.BeforeHead = (s.unread ≡ rest) × (p.continue_sent ≡ false)
-RequestReaderKeeps s p rest (phase.InContent head content)
-    = RequestContentResumes p.max_body p.continue_sent head content rest s.unread
-RequestReaderKeeps s p rest phase.Given = ⊥
-RequestReaderKeeps s p rest (phase.Faulty f) = ReadsAs p.max_body p.ended p.continue_sent rest (Faulty f)
+abbrev pub RequestReaderHoldsTheRest : State → Progress Request → List ℕ → ReaderPhase Head → Type 0
+RequestReaderHoldsTheRest s p rest phase.BeforeHead = (s.unread ≡ rest) × (p.continue_sent ≡ false)
+RequestReaderHoldsTheRest s p rest (phase.InContent head content)
+    = RequestReadsByResumedContent p.max_body p.continue_sent head content rest s.unread
+RequestReaderHoldsTheRest s p rest phase.Given = ⊥
+RequestReaderHoldsTheRest s p rest (phase.Faulty f) = ReadsAs p.max_body p.ended p.continue_sent rest (Faulty f)
 
 -- the reader stands for the stream
-pub record RepresentsStream (s : State) (p : Progress Request) : Type 0 where
+pub record ReaderRepresentsStream (s : State) (p : Progress Request) : Type 0 where
   pub max_body : s.max_body ≡ p.max_body
   pub ended : s.ended ≡ p.ended
   pub rest : List ℕ
   pub spells : StreamSpells p.max_body p.stream p.given rest
-  pub keeps : RequestReaderKeeps s p rest s.phase
+  pub keeps : RequestReaderHoldsTheRest s p rest s.phase
 
 -- a message that was begun may still be due
 abbrev pub begun_message_weight : ReaderPhase Head → ℕ
@@ -47,7 +48,7 @@ weight s = 2 * length s.unread + begun_message_weight s.phase
 -- requests, as a reader has them: none of their contents runs until the close, and behind each another may come
 abbrev pub request_kind : ReaderKind Head Request
 request_kind = record {
-  RepresentsStream = RepresentsStream;
+  ReaderRepresentsStream = ReaderRepresentsStream;
   Answers = Answers;
   OutOfMemoryIsAllowed = OutOfMemoryIsAllowed;
   weight = weight;

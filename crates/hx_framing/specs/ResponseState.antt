@@ -8,10 +8,10 @@ use Rattle.hx_framing.specs.Reading.{Faulty}
 use Rattle.hx_framing.specs.ReaderKind.{ReaderKind}
 use Rattle.hx_framing.specs.ReaderState.{ReaderState}
 use Rattle.hx_framing.specs.ResponseReading.{response_of_head, SkipsInterimResponses, ReadsAs}
-use Rattle.hx_framing.specs.ResponseHeadProgress.{ResponseContentResumes, IsProgressOfBytes}
+use Rattle.hx_framing.specs.ResponseHeadProgress.{ResponseReadsByResumedContent, IsProgressOfBytes}
 use Rattle.hx_framing.specs.ResponseHeadProgress.{FinalHeadFollowsInterimResponses}
 use Rattle.hx_framing.specs.ResponseStream.{StreamSpellsGivenResponse, Answers, OutOfMemoryIsAllowed}
-use Rattle.hx_framing.specs.Progress.{Progress, AnswerIsDue, cost_of_answer}
+use Rattle.hx_framing.specs.Progress.{Progress, ReaderAnswerNeedsAction, weight_used_by_answer}
 
 -- what contracts see of a reader
 abbrev pub State : Type 0
@@ -19,24 +19,25 @@ State = ReaderState StatusHead
 
 -- before the head the reader keeps the stream but for interim responses, in the content what is still to come of it;
 -- behind the message, or from a fault on, what comes doesn't count
-abbrev pub ResponseReaderKeeps : State → Progress Response → ReaderPhase StatusHead → List Response → Type 0
-ResponseReaderKeeps s p phase.BeforeHead [] = (sizes : List ℕ) × SkipsInterimResponses p.stream sizes s.unread
-ResponseReaderKeeps s p phase.BeforeHead (message ∷ more) = ⊥
-ResponseReaderKeeps s p (phase.InContent head content) []
-    = ResponseContentResumes p.max_body p.to_head head content p.stream s.unread
-ResponseReaderKeeps s p (phase.InContent head content) (message ∷ more) = ⊥
-ResponseReaderKeeps s p phase.Given [] = ⊥
-ResponseReaderKeeps s p phase.Given (message ∷ more) = Unit {0}
-ResponseReaderKeeps s p (phase.Faulty f) [] = ReadsAs p.max_body p.to_head p.ended p.stream (Faulty f)
-ResponseReaderKeeps s p (phase.Faulty f) (message ∷ more) = ⊥
+abbrev pub ResponseReaderKeepsUnreadStream : State → Progress Response → ReaderPhase StatusHead → List Response → Type 0
+ResponseReaderKeepsUnreadStream s p phase.BeforeHead [] = (sizes : List ℕ)
+    × SkipsInterimResponses p.stream sizes s.unread
+ResponseReaderKeepsUnreadStream s p phase.BeforeHead (message ∷ more) = ⊥
+ResponseReaderKeepsUnreadStream s p (phase.InContent head content) []
+    = ResponseReadsByResumedContent p.max_body p.to_head head content p.stream s.unread
+ResponseReaderKeepsUnreadStream s p (phase.InContent head content) (message ∷ more) = ⊥
+ResponseReaderKeepsUnreadStream s p phase.Given [] = ⊥
+ResponseReaderKeepsUnreadStream s p phase.Given (message ∷ more) = Unit {0}
+ResponseReaderKeepsUnreadStream s p (phase.Faulty f) [] = ReadsAs p.max_body p.to_head p.ended p.stream (Faulty f)
+ResponseReaderKeepsUnreadStream s p (phase.Faulty f) (message ∷ more) = ⊥
 
 -- the reader stands for the stream
-pub record RepresentsStream (s : State) (p : Progress Response) : Type 0 where
+pub record ReaderRepresentsStream (s : State) (p : Progress Response) : Type 0 where
   pub max_body : s.max_body ≡ p.max_body
   pub to_head : s.to_head ≡ p.to_head
   pub ended : s.ended ≡ p.ended
   pub spells : StreamSpellsGivenResponse p p.given
-  pub keeps : ResponseReaderKeeps s p s.phase p.given
+  pub keeps : ResponseReaderKeepsUnreadStream s p s.phase p.given
 
 -- what may still be due, by where the reader is
 abbrev pub weight_in_phase : State → ReaderPhase StatusHead → ℕ
@@ -50,13 +51,13 @@ abbrev pub weight : State → ℕ
 weight s = weight_in_phase s s.phase
 
 -- responses, as a reader has them: a content may run until the close, and there is one message
-abbrev pub response_kind : ReaderKind StatusHead Response
-response_kind = record {
-  RepresentsStream = RepresentsStream;
+abbrev pub response_reader_kind : ReaderKind StatusHead Response
+response_reader_kind = record {
+  ReaderRepresentsStream = ReaderRepresentsStream;
   Answers = Answers;
   OutOfMemoryIsAllowed = OutOfMemoryIsAllowed;
   weight = weight;
-  DueIsWeighed = λ left answer. AnswerIsDue answer → 1 ≤ left + cost_of_answer answer;
+  DueIsWeighed = λ left answer. ReaderAnswerNeedsAction answer → 1 ≤ left + weight_used_by_answer answer;
   FrontIsFound = IsProgressOfBytes;
   WholeHeadIsThere = FinalHeadFollowsInterimResponses;
   message_of = response_of_head;

@@ -3,7 +3,7 @@ use Rattle.std.specs.Prelude.{◌≡◌, ℕ, Bool, true, List, [], ◌∷◌}
 use Rattle.hx_framing.specs.declared.messages.Response.{Response}
 use Rattle.hx_framing.specs.declared.messages.Next.{Next}
 use Rattle.hx_framing.specs.declared.messages.Next.TheVariants.{End}
-use Rattle.hx_framing.specs.Reading.{StreamReading, Spelled}
+use Rattle.hx_framing.specs.Reading.{StreamReadResult, Spelled}
 use Rattle.hx_framing.specs.ResponseReading.{ReadsAs}
 use Rattle.hx_framing.specs.Progress.{Progress, next_answer_of_reading, out_of_memory_may_replace}
 
@@ -19,15 +19,15 @@ StreamSpellsGivenResponse p (message ∷ []) = (rest : List ℕ)
 StreamSpellsGivenResponse p (message ∷ other ∷ more) = ⊥
 
 -- before the message what the stream reads as, and then the end, whatever follows
-abbrev pub IsAnswerAfterGivenResponses : Progress Response → List Response → Next Response → Type 0
-IsAnswerAfterGivenResponses p [] answer =
-    (reading : StreamReading Response)
+abbrev pub IsReadAnswerThenEnd : Progress Response → List Response → Next Response → Type 0
+IsReadAnswerThenEnd p [] answer =
+    (reading : StreamReadResult Response)
     × ReadsAs p.max_body p.to_head p.ended p.stream reading × (answer ≡ next_answer_of_reading reading)
-IsAnswerAfterGivenResponses p (message ∷ more) answer = answer ≡ End
+IsReadAnswerThenEnd p (message ∷ more) answer = answer ≡ End
 
 pub record Answers (p : Progress Response) (answer : Next Response) : Type 0 where
   pub spells : StreamSpellsGivenResponse p p.given
-  pub by : IsAnswerAfterGivenResponses p p.given answer
+  pub by : IsReadAnswerThenEnd p p.given answer
 
 -- out of memory may stand in place of the answer
 abbrev pub OutOfMemoryIsAllowed : Progress Response → Type 0

@@ -3,13 +3,13 @@ use Rattle.std.specs.Prelude.{◌≡◌, ℕ, ◌+◌, ◌≤◌, ◌++◌, true
 use Rattle.hx_framing.specs.declared.heads.head_end.HeadSearch.{HeadSearch}
 use Rattle.hx_framing.specs.declared.heads.head_end.HeadSearchResult.{HeadSearchResult}
 use Rattle.hx_framing.specs.declared.heads.head_end.HeadSearchResult.TheVariants as searched
-use Rattle.hx_framing.specs.HeadEnd.{empty_lines_from, empty_lines_length, head_end_from, head_length}
+use Rattle.hx_framing.specs.HeadEnd.{empty_lines_end_from, empty_lines_length, head_end_from, head_length}
 
 -- no end of a head lies where the search has been: whatever bytes follow, it is found by going on from there
 pub record NoHeadEndsBeforeSearch (bytes : List ℕ) (search : HeadSearch) : Type 0 where
   pub within : search.at ≤ length bytes
   pub empty_lines : search.is_past_empty_lines ≡ false → (more : List ℕ)
-      → empty_lines_length (bytes ++ more) ≡ empty_lines_from search.at (drop search.at (bytes ++ more))
+      → empty_lines_length (bytes ++ more) ≡ empty_lines_end_from search.at (drop search.at (bytes ++ more))
   pub room : search.is_past_empty_lines ≡ true → search.at + 2 ≤ length bytes
   pub lines : search.is_past_empty_lines ≡ true → (more : List ℕ)
       → head_length (bytes ++ more) ≡ head_end_from search.at (drop search.at (bytes ++ more))

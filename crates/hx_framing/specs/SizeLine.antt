@@ -57,13 +57,13 @@ abbrev pub without_last_byte : List ℕ → List ℕ
 without_last_byte line = take (length line - 1) line
 
 -- the number, where it is at most most
-abbrev pub number_at_most : ℕ → ℕ → Option ℕ
-number_at_most most n = cond (nat_le n most) (Some n) None
+abbrev pub number_if_at_most : ℕ → ℕ → Option ℕ
+number_if_at_most most n = cond (nat_le n most) (Some n) None
 
 -- the size that a line without its LF spells, or its fault
 -- own: a size above left, what is left of max_body, is refused
 abbrev pub chunk_size_of_line : List ℕ → ℕ → Result ℕ FrameFault
 chunk_size_of_line line left =
     cond (ends_in_cr line && is_chunk_size_text (without_last_byte line))
-    (ok_or (number_at_most left (chunk_size_of (without_last_byte line))) fault.TooLarge)
+    (ok_or (number_if_at_most left (chunk_size_of (without_last_byte line))) fault.TooLarge)
     (Err fault.Chunk)

@@ -23,8 +23,8 @@ status_head_at bytes spans r =
     record { status = r.code; minor = r.version; fields = map (field_at_span bytes) (take r.headers spans) }
 
 -- just these bytes are the head h, with the empty lines in front
-abbrev pub IsStatusHead : List ℕ → ResponseHead → Type 0
-IsStatusHead bytes h = ReadsResponse bytes h [] × (length h.fields ≤ most_field_lines)
+abbrev pub IsWholeResponseHead : List ℕ → ResponseHead → Type 0
+IsWholeResponseHead bytes h = ReadsResponse bytes h [] × (length h.fields ≤ most_field_lines)
 
 -- the fault of bytes that are no head: Version takes the place of Head where the status line begins
 -- with another version
@@ -34,8 +34,9 @@ status_head_fault bytes = if begins_with_unsupported_version (start_line bytes) 
 
 -- how the bytes of a whole head are judged
 abbrev pub ResponseHeadIsJudged : List ℕ → Result StatusHead FrameFault → Type 0
-ResponseHeadIsJudged bytes (Ok head) = (h : ResponseHead) × IsStatusHead bytes h × (head ≡ status_head_of h)
-ResponseHeadIsJudged bytes (Err f) = ((h : ResponseHead) → ¬ (IsStatusHead bytes h)) × (f ≡ status_head_fault bytes)
+ResponseHeadIsJudged bytes (Ok head) = (h : ResponseHead) × IsWholeResponseHead bytes h × (head ≡ status_head_of h)
+ResponseHeadIsJudged bytes (Err f) =
+    ((h : ResponseHead) → ¬ (IsWholeResponseHead bytes h)) × (f ≡ status_head_fault bytes)
 
 -- the same, where the head of an interim response is only told (RFC 9110, section 15.2)
 abbrev pub ResponseHeadIsJudgedAs : List ℕ → Judged → Type 0

@@ -27,16 +27,16 @@
 //! | `SizeLine` | which lines are sizes of chunks, and their limits | 9112, 7.1 and 7.1.1 |
 //! | `Fault` | the faults' numbers | |
 //! | `ReaderState` | what `kept` counts, and what is unfinished (`KeepsOnlyUnfinished`), | |
-//! | | by `IsUnfinishedContent` of `Contents` and `IsUnfinishedLine` of `ChunkTokens` | |
+//! | | by `IsRestOfUnfinishedContent` of `Contents` and `IsUnfinishedLine` of `ChunkTokens` | |
 //! | `RequestState`, `ResponseState` | what `weight` counts, and what a reader's contracts say of its kind | |
-//! | | (`request_kind`, `response_kind`), in the words of `ReaderKind` | |
+//! | | (`request_kind`, `response_reader_kind`), in the words of `ReaderKind` | |
 //! | `Text` | the bytes of messages that are sent | 9112, 3 to 7 |
 //!
 //! The laws' own words are in `ChunkGrammar` (chunks as trees), `ChunkFaults`, `HeadLines`,
 //! `GivenFields`, `FaultOrder`, `Written`, `WrittenResponse`, `Examples`, `LengthExamples` and
 //! `ReadingExamples`. The rest serves the proofs alone and needs no trust: `RequestHeadProgress`,
 //! `ResponseHeadProgress`, `ReaderSteps`, `ContentReading`, `Decoding`, `PlainContent`,
-//! `Queue`, `Searching`, what else is in `ChunkTokens`; and so does `RepresentsStream`, which
+//! `Queue`, `Searching`, what else is in `ChunkTokens`; and so does `ReaderRepresentsStream`, which
 //! may be any relation that holds of a new reader and that each call keeps.
 #![tactic(auto)]
 
@@ -56,6 +56,6 @@ pub use crate::messages::{Next, Request, Response};
 pub use crate::readers::message_head::MessageHead;
 pub use crate::readers::message_reader::{MessageReader, RequestReader, ResponseReader};
 pub use crate::writing::{
-    AddedLine, ResponseLines, write_continue, write_request, write_response,
+    AddedLine, LinesAfterStatusLine, write_continue, write_request, write_response,
     write_response_with_added_lines,
 };

@@ -33,4 +33,4 @@ pub(crate) const MOST_CHUNK_SIZE_LINE_BYTES: usize = MOST_CHUNK_SIZE_DIGITS
 pub(crate) const MOST_TRAILER_BYTES: usize = 32768;
 
 /// Bytes of content that an answer to HEAD announces. A greater length isn't kept; nothing is refused for it.
-pub(crate) const MOST_ANNOUNCED_BYTES: u64 = u64::MAX;
+pub(crate) const MOST_BYTES_ANNOUNCED_TO_HEAD: u64 = u64::MAX;

@@ -18,7 +18,7 @@ pub struct AddedLine<'a> {
 
 /// The lines of a response behind its status line, in their order.
 #[derive(Clone, Copy)]
-pub struct ResponseLines<'a> {
+pub struct LinesAfterStatusLine<'a> {
     pub fields: &'a Fields,
     pub added: &'a [AddedLine<'a>],
     /// The Content-Length in bytes, where one is told.
@@ -148,7 +148,7 @@ pub fn write_response(
     ensures { IfOk result (λ text. text
         ≡ response_text status fields.now length close content.now) }
 {
-    let lines = ResponseLines {
+    let lines = LinesAfterStatusLine {
         fields,
         added: &[],
         length,
@@ -161,7 +161,7 @@ pub fn write_response(
 pub fn write_response_with_added_lines(
     alloc: Global,
     status: u16,
-    lines: &ResponseLines<'_>,
+    lines: &LinesAfterStatusLine<'_>,
     content: &[u8],
 ) -> Result<Bytes, AllocError>
     ensures { IfOk result (λ text. text

@@ -4,7 +4,7 @@ use Rattle.std.proofs.lemmas.List.{length-map}
 use Rattle.hx_framing.specs.declared.heads.request_head.Head.{Head}
 use Rattle.hx_framing.specs.declared.heads.status_head.StatusHead.{StatusHead}
 use Rattle.hx_framing.specs.HeadEnd.{most_field_lines}
-use Rattle.hx_framing.specs.Head.{RequestHeadIsJudged, field_of_parsed_line, head_of_parsed_request, request_head_fault}
+use Rattle.hx_framing.specs.Head.{RequestHeadIsJudged, field_of_parsed_line, head_of_parsed_request, fault_of_bad_request_head}
 use Rattle.hx_framing.specs.StatusHead.{ResponseHeadIsJudged, status_head_of, status_head_fault}
 use Rattle.hx_framing_laws.specs.Characters.{BytesAreOctets}
 use Rattle.hx_framing_laws.specs.Heads.{IsRequestHead, IsResponseHead}
@@ -22,7 +22,7 @@ response_written bytes head octets (tree, is, gives) =
     (response_is bytes tree octets is, omega (arith, length-map tree.fields field_of_parsed_line, is.1))
 
 pub other_requests : (bytes : List ℕ) → BytesAreOctets bytes → ((head : Head) → IsRequestHead bytes head → most_field_lines < length head.fields)
-    → RequestHeadIsJudged bytes (Err (request_head_fault bytes))
+    → RequestHeadIsJudged bytes (Err (fault_of_bad_request_head bytes))
 other_requests bytes octets many = (
   λ tree is. absurd (omega (arith, many (head_of_parsed_request tree) (request_is bytes tree octets is), length-map tree.fields field_of_parsed_line, is.1)),
   refl,

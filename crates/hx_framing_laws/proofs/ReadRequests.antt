@@ -10,7 +10,7 @@ use Rattle.hx_framing.specs.declared.messages.Request.{Request}
 use Rattle.hx_framing.specs.Body.{ContentParseResult, Short, Bad, Whole}
 use Rattle.hx_framing.specs.Contents.{content_by_framing}
 use Rattle.hx_framing.specs.HeadEnd.{empty_lines_length, head_length, most_field_lines, most_head_bytes}
-use Rattle.hx_framing.specs.Head.{RequestHeadIsJudged, field_of_parsed_line, request_head_fault}
+use Rattle.hx_framing.specs.Head.{RequestHeadIsJudged, field_of_parsed_line, fault_of_bad_request_head}
 use Rattle.hx_framing.specs.Lengths.{request_framing_of}
 use Rattle.hx_framing.specs.Reading.{Continue, Over, Spelled, Faulty, truncated_or_incomplete, reading_of_content}
 use Rattle.hx_framing.specs.RequestReading.{ReadsAs, RequestReadsByHeadLength, request_of_head, reading_behind_request_head, reading_with_request_body, reading_without_request_head}
@@ -44,7 +44,7 @@ heads_are_read max_body ended continue_sent text behind head is within =
 many_lines_refused : (text : List ℕ) (head : Head) → IsTakenRequest text head → most_field_lines < length head.fields → RequestHeadIsJudged text (Err fault.Head)
 many_lines_refused text head t many =
     let same : length head.fields ≡ length t.tree.fields = ap (λ (h : Head). length h.fields) t.gives ∙ length-map t.tree.fields field_of_parsed_line in
-    let fault_is : request_head_fault text ≡ fault.Head
+    let fault_is : fault_of_bad_request_head text ≡ fault.Head
     = ap (λ (t : Bool). if t then fault.Version else fault.Head) (request_version_known text t.tree t.reads) in
     subst (λ f. RequestHeadIsJudged text (Err f)) fault_is (many_lines text t.tree t.reads (omega (arith, same, many)))
 

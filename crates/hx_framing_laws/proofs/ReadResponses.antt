@@ -13,8 +13,8 @@ use Rattle.hx_framing.specs.HeadEnd.{head_length, most_field_lines, most_head_by
 use Rattle.hx_framing.specs.Head.{field_of_parsed_line}
 use Rattle.hx_framing.specs.StatusHead.{ResponseHeadIsJudged, status_head_fault}
 use Rattle.hx_framing.specs.Lengths.{framing_of_response, is_interim}
-use Rattle.hx_framing.specs.Reading.{StreamReading, Spelled, Faulty, truncated_or_incomplete, reading_of_content}
-use Rattle.hx_framing.specs.ResponseReading.{ReadsAs, FinalReadsByHeadLength, IsInterimHead, SkipsInterimResponses, response_of_head, reading_behind_response_head, reading_with_framing, reading_without_response_head}
+use Rattle.hx_framing.specs.Reading.{StreamReadResult, Spelled, Faulty, truncated_or_incomplete, reading_of_content}
+use Rattle.hx_framing.specs.ResponseReading.{ReadsAs, FinalResponseReadsByHeadLength, IsInterimHead, SkipsInterimResponses, response_of_head, reading_behind_response_head, response_reading_by_framing, reading_without_response_head}
 use Rattle.hx_framing.proofs.BoundLemmas.{long_response, many_status_lines}
 use Rattle.hx_framing.proofs.HeadEnds.{head_within_bytes}
 use Rattle.hx_framing_laws.specs.Characters.{BytesAreOctets}
@@ -46,11 +46,11 @@ final_heads_are_read max_body to_head ended text behind head is within final =
       [],
       text ++ behind,
       refl,
-      subst (λ o. FinalReadsByHeadLength max_body to_head ended (text ++ behind) o reading) (sym (place text behind head is within.short))
+      subst (λ o. FinalResponseReadsByHeadLength max_body to_head ended (text ++ behind) o reading) (sym (place text behind head is within.short))
           (Ok head, judged_in_front text behind head is within.few, final, rest),
     )
 
-pub interim_heads_are_passed : (max_body : ℕ) (to_head ended : Bool) (text behind : List ℕ) (head : StatusHead) (reading : StreamReading Response)
+pub interim_heads_are_passed : (max_body : ℕ) (to_head ended : Bool) (text behind : List ℕ) (head : StatusHead) (reading : StreamReadResult Response)
     → IsResponseHead text head → HeadIsWithinLimits text head.fields → is_interim head.status ≡ true
     → ReadsAs max_body to_head ended behind reading → ReadsAs max_body to_head ended (text ++ behind) reading
 interim_heads_are_passed max_body to_head ended text behind head reading is within interim (sizes, rest, passes, reads) =
@@ -91,7 +91,7 @@ heads_beyond_are_refused max_body to_head ended text behind head is beyond = by_
           [],
           text ++ behind,
           refl,
-          subst (λ o. FinalReadsByHeadLength max_body to_head ended (text ++ behind) o (Faulty fault.Head)) (sym found) (Err fault.Head, judged, tt, refl),
+          subst (λ o. FinalResponseReadsByHeadLength max_body to_head ended (text ++ behind) o (Faulty fault.Head)) (sym found) (Err fault.Head, judged, tt, refl),
         )
 
 -- ---- what is read begins with a head
@@ -112,7 +112,7 @@ of_body to_head ended head (Bad f) r rest is = absurd cc
 of_body to_head ended head (Whole content behind) r rest is = (content, cc)
 
 of_framing : (max_body : ℕ) (to_head ended : Bool) (head : StatusHead) (bytes : List ℕ) (framing : Result _ FrameFault) (r : Response) (rest : List ℕ)
-    → Spelled r rest ≡ reading_with_framing max_body to_head ended head bytes framing → (content : Option (List ℕ)) × (r ≡ response_of_head to_head head content)
+    → Spelled r rest ≡ response_reading_by_framing max_body to_head ended head bytes framing → (content : Option (List ℕ)) × (r ≡ response_of_head to_head head content)
 of_framing max_body to_head ended head bytes (Err f) r rest is = absurd cc
 of_framing max_body to_head ended head bytes (Ok framing) r rest is = of_body to_head ended head (content_by_framing max_body framing ended bytes) r rest is
 
@@ -124,7 +124,7 @@ BeginsWithHead to_head bytes given =
     × (given ≡ response_of_head to_head head content)
 
 front_begins : (max_body : ℕ) (to_head ended : Bool) (bytes rest : List ℕ) (given : Response) → BytesAreOctets bytes → (o : Option ℕ) → head_length (take most_head_bytes bytes) ≡ o
-    → FinalReadsByHeadLength max_body to_head ended bytes o (Spelled given rest) → BeginsWithHead to_head bytes given
+    → FinalResponseReadsByHeadLength max_body to_head ended bytes o (Spelled given rest) → BeginsWithHead to_head bytes given
 front_begins max_body to_head ended bytes rest given octets None place is = absurd (no_response ended bytes given rest is)
 front_begins max_body to_head ended bytes rest given octets (Some n) place (Err f, judged, final, is) = absurd cc
 front_begins max_body to_head ended bytes rest given octets (Some n) place (Ok head, judged, final, is) =

@@ -17,7 +17,7 @@ use Rattle.hx_framing.specs.Head.{RequestHeadIsJudged, field_of_parsed_line, hea
 use Rattle.hx_framing.specs.StatusHead.{ResponseHeadIsJudged, status_head_of}
 use Rattle.hx_framing.proofs.HeadLineLemmas.{without_trailing_cr-is, text_of}
 use Rattle.hx_framing.proofs.GivenLemmas.{spell_all, messages_spelled_by_a_stream_are_unique}
-use Rattle.hx_framing_laws.specs.Lines.{IsLineEnd, IsReasonPhrase, IsFieldLine, version_text, reason_text}
+use Rattle.hx_framing_laws.specs.Lines.{IsLineEnd, IsReasonPhrase, IsFieldLine, version_text, space_and_reason_text}
 use Rattle.hx_framing_laws.specs.Heads.{AreFieldLines, AreEmptyLines, IsHead, IsRequestHead, IsResponseHead}
 use Rattle.hx_framing_laws.proofs.CharacterLemmas.{characters_of_target, characters_of_text, characters_of_blanks, some_is, token_of}
 use Rattle.hx_framing_laws.proofs.FieldValues.{trimmed_of_value}
@@ -208,7 +208,7 @@ response_taken text head is =
     regroup : (v d r e s : List ℕ) → (v ++ 32 ∷ (d ++ r)) ++ (e ++ s) ≡ v ++ 32 ∷ (d ++ (r ++ (e ++ (s ++ []))))
     regroup v d r e s = simp (append_assoc, append-nil)
 
-    by_reason : (d : List ℕ) (r : Option (List ℕ)) (e s : List ℕ) → (version_text 1 head.minor ++ 32 ∷ (d ++ reason_text r)) ++ (e ++ s)
+    by_reason : (d : List ℕ) (r : Option (List ℕ)) (e s : List ℕ) → (version_text 1 head.minor ++ 32 ∷ (d ++ space_and_reason_text r)) ++ (e ++ s)
         ≡ print_version head.minor ++ 32 ∷ (d ++ (print_reason r ++ (e ++ (s ++ []))))
     by_reason d None e s = regroup (version_text 1 head.minor) d [] e s
     by_reason d (Some phrase) e s = regroup (version_text 1 head.minor) d (32 ∷ phrase) e s

@@ -9,11 +9,11 @@ use Rattle.httparse.proofs.GrammarLemmas.{print_request-append, print_response-a
 use Rattle.httparse.proofs.TrimLemmas.{AllPass-trim_ows}
 use Rattle.hx_framing.specs.GivenFields.{LineSpellsField}
 use Rattle.hx_framing.specs.Head.{IsHeadOfRequest, field_of_parsed_line, head_of_parsed_request}
-use Rattle.hx_framing.specs.StatusHead.{IsStatusHead, status_head_of}
+use Rattle.hx_framing.specs.StatusHead.{IsWholeResponseHead, status_head_of}
 use Rattle.hx_framing.proofs.HeadLineLemmas.{IsNo, each, value_byte, token_byte, token, without_trailing_cr-is, text_of}
 use Rattle.hx_framing.proofs.GivenLemmas.{spell_all}
 use Rattle.hx_framing_laws.specs.Characters.{BytesAreOctets, is_field_text_byte}
-use Rattle.hx_framing_laws.specs.Lines.{IsLineEnd, IsReasonPhrase, IsFieldLine, version_text, reason_text}
+use Rattle.hx_framing_laws.specs.Lines.{IsLineEnd, IsReasonPhrase, IsFieldLine, version_text, space_and_reason_text}
 use Rattle.hx_framing_laws.specs.Heads.{AreFieldLines, AreEmptyLines, IsHead, IsRequestHead, IsResponseHead}
 use Rattle.hx_framing_laws.proofs.CharacterLemmas.{octets_parts, target_characters, text_characters}
 use Rattle.hx_framing_laws.proofs.FieldValues.{value_of_trimmed}
@@ -140,9 +140,9 @@ request_is bytes h octets head =
 -- ---- responses
 
 abbrev status_line : ResponseHead → List ℕ
-status_line h = version_text 1 h.minor ++ 32 ∷ (h.digits ++ reason_text h.reason)
+status_line h = version_text 1 h.minor ++ 32 ∷ (h.digits ++ space_and_reason_text h.reason)
 
-response_parts : (bytes : List ℕ) (h : ResponseHead) → IsStatusHead bytes h
+response_parts : (bytes : List ℕ) (h : ResponseHead) → IsWholeResponseHead bytes h
     → bytes ≡ print_blank h.blank ++ (status_line h ++ (print_end h.line_end ++ print_section h.fields h.last))
 response_parts bytes h head =
     head.0.1 ∙ print_response-append h []
@@ -152,19 +152,19 @@ response_parts bytes h head =
     regroup v d r e s = simp (append_assoc, append-nil)
 
     by_reason : (r : Option (List ℕ)) → print_version h.minor ++ 32 ∷ (h.digits ++ (print_reason r ++ (print_end h.line_end ++ (print_section h.fields h.last ++ []))))
-        ≡ (version_text 1 h.minor ++ 32 ∷ (h.digits ++ reason_text r)) ++ (print_end h.line_end ++ print_section h.fields h.last)
+        ≡ (version_text 1 h.minor ++ 32 ∷ (h.digits ++ space_and_reason_text r)) ++ (print_end h.line_end ++ print_section h.fields h.last)
     by_reason None = regroup (version_text 1 h.minor) h.digits [] (print_end h.line_end) (print_section h.fields h.last)
     by_reason (Some phrase) = regroup (version_text 1 h.minor) h.digits (32 ∷ phrase) (print_end h.line_end) (print_section h.fields h.last)
 
-reason_is : (r : Option (List ℕ)) → BytesAreOctets (reason_text r) → AllPass is_value_byte (reason_phrase r) → IsReasonPhrase r
+reason_is : (r : Option (List ℕ)) → BytesAreOctets (space_and_reason_text r) → AllPass is_value_byte (reason_phrase r) → IsReasonPhrase r
 reason_is None octets pass = tt
 reason_is (Some phrase) octets pass = text_characters phrase (octets_parts (32 ∷ []) phrase octets).1 pass
 
-pub response_is : (bytes : List ℕ) (h : ResponseHead) → BytesAreOctets bytes → IsStatusHead bytes h → IsResponseHead bytes (status_head_of h)
+pub response_is : (bytes : List ℕ) (h : ResponseHead) → BytesAreOctets bytes → IsWholeResponseHead bytes h → IsResponseHead bytes (status_head_of h)
 response_is bytes h octets head =
     let parts = response_parts bytes h head in
     let start = start_octets bytes (status_line h) h.blank (print_end h.line_end ++ print_section h.fields h.last) octets parts in
-    let behind = (octets_parts (version_text 1 h.minor ++ 32 ∷ []) (h.digits ++ reason_text h.reason) start).1 in record {
+    let behind = (octets_parts (version_text 1 h.minor ++ 32 ∷ []) (h.digits ++ space_and_reason_text h.reason) start).1 in record {
       line = status_line h;
       line_is = record {
         digits = h.digits;
@@ -173,7 +173,7 @@ response_is bytes h octets head =
         three = head.0.0.digits.0;
         digits_are = list_all-from_AllPass is_ascii_digit h.digits head.0.0.digits.1;
         status_is = refl;
-        reason_is = reason_is h.reason (octets_parts h.digits (reason_text h.reason) behind).1 head.0.0.reason;
+        reason_is = reason_is h.reason (octets_parts h.digits (space_and_reason_text h.reason) behind).1 head.0.0.reason;
         minor_is = head.0.0.minor;
       };
       head_is = head_is bytes (status_line h) h.blank h.line_end h.fields h.last head.0.0.fields octets parts;

@@ -15,9 +15,9 @@ use Rattle.hx_framing.specs.declared.messages.Request.{Request}
 use Rattle.hx_framing.specs.declared.messages.Response.{Response}
 use Rattle.hx_framing.specs.HeadEnd.{most_field_lines, most_head_bytes}
 use Rattle.hx_framing.specs.GivenFields.{TextIsTrimmed}
-use Rattle.hx_framing.specs.Head.{RequestHeadIsJudged, request_head_fault}
+use Rattle.hx_framing.specs.Head.{RequestHeadIsJudged, fault_of_bad_request_head}
 use Rattle.hx_framing.specs.StatusHead.{ResponseHeadIsJudged, status_head_fault}
-use Rattle.hx_framing.specs.Reading.{StreamReading, Spelled, Faulty}
+use Rattle.hx_framing.specs.Reading.{StreamReadResult, Spelled, Faulty}
 use Rattle.hx_framing.specs.RequestReading.{ReadsAs, request_of_head, reading_behind_request_head}
 use Rattle.hx_framing.specs.Lengths.{is_interim}
 use Rattle.hx_framing.specs.ResponseReading as response
@@ -55,7 +55,7 @@ RefusedTextsAreNoRequestHeads = (bytes : List ℕ) (fault : FrameFault) (head : 
 abbrev pub UngrammaticalRequestHeadsAreRefused : Type 0
 UngrammaticalRequestHeadsAreRefused = (bytes : List ℕ) → BytesAreOctets bytes
     → ((head : Head) → IsRequestHead bytes head → most_field_lines < length head.fields)
-    → RequestHeadIsJudged bytes (Err (request_head_fault bytes))
+    → RequestHeadIsJudged bytes (Err (fault_of_bad_request_head bytes))
 
 -- a text is one head at most
 abbrev pub RequestHeadOfATextIsUnique : Type 0
@@ -132,7 +132,8 @@ FinalResponseHeadsInFrontAreRead =
 -- where that of an interim one does, what is told is what stands behind it
 abbrev pub InterimHeadsInFrontAreSkipped : Type 0
 InterimHeadsInFrontAreSkipped =
-    (max_body : ℕ) (to_head ended : Bool) (text behind : List ℕ) (head : StatusHead) (reading : StreamReading Response)
+    (max_body : ℕ) (to_head ended : Bool) (text behind : List ℕ) (head : StatusHead)
+    (reading : StreamReadResult Response)
     → IsResponseHead text head → HeadIsWithinLimits text head.fields → is_interim head.status ≡ true
     → response.ReadsAs max_body to_head ended behind reading
     → response.ReadsAs max_body to_head ended (text ++ behind) reading

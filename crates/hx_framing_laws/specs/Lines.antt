@@ -51,9 +51,9 @@ pub record IsRequestLine (line method target : List ℕ) (minor : ℕ) : Type 0 
 -- SP [ reason-phrase ], and reason-phrase = 1*( HTAB / SP / VCHAR / obs-text ) (RFC 9112, section 4); the phrase is
 -- empty where it is left out
 -- own: the SP may be left out with it
-abbrev pub reason_text : Option (List ℕ) → List ℕ
-reason_text None = []
-reason_text (Some phrase) = space_byte ∷ phrase
+abbrev pub space_and_reason_text : Option (List ℕ) → List ℕ
+space_and_reason_text None = []
+space_and_reason_text (Some phrase) = space_byte ∷ phrase
 
 abbrev pub IsReasonPhrase : Option (List ℕ) → Type 0
 IsReasonPhrase None = Unit {0}
@@ -64,7 +64,7 @@ IsReasonPhrase (Some phrase) = list_all is_field_text_byte phrase ≡ true
 pub record IsStatusLine (line : List ℕ) (minor status : ℕ) : Type 0 where
   pub digits : List ℕ
   pub reason : Option (List ℕ)
-  pub parts : line ≡ version_text 1 minor ++ space_byte ∷ (digits ++ reason_text reason)
+  pub parts : line ≡ version_text 1 minor ++ space_byte ∷ (digits ++ space_and_reason_text reason)
   pub three : length digits ≡ 3
   pub digits_are : list_all is_ascii_digit digits ≡ true
   pub status_is : status ≡ digits_value 10 digits

@@ -2,7 +2,7 @@
 use Rattle.std.proofs.Common.{◌≡◌, ℕ, ◌<◌, Bool, true, false, not, cond, List, [], ◌∷◌, ◌++◌, refl, ◌∙◌, ap, codes}
 use Rattle.std.specs.Prelude.{is_some}
 use Rattle.std.proofs.lemmas.List.Elements.{filter-append}
-use Rattle.hx_fields.specs.declared.limits.TheConstants.{END_OF_TIME}
+use Rattle.hx_fields.specs.declared.limits.TheConstants.{START_OF_YEAR_10000}
 use Rattle.hx_fields.specs.Line.{Field}
 use Rattle.hx_fields.specs.FieldLines.{is_named, values_of, without_named}
 use Rattle.hx_hop.specs.Answering.{fields_with_valid_date, has_one_date, is_one_http_date}
@@ -21,11 +21,11 @@ added fields text =
     let none = filter_none (λ f. not (is_named (codes "Date") f)) (is_named (codes "Date")) (λ f e. not_true _ e) fields in
     rw (filter-append (is_named (codes "Date")) (without_named fields (codes "Date")) (line (codes "Date") text ∷ []), none) refl
 
-replaced : (fields : List Field) (now : ℕ) → now < END_OF_TIME
+replaced : (fields : List Field) (now : ℕ) → now < START_OF_YEAR_10000
     → has_one_date (without_named fields (codes "Date") ++ line (codes "Date") (date_text_of now) ∷ []) ≡ true
 replaced fields now early = ap is_one_http_date (added fields (date_text_of now)) ∙ ap is_some (shows_the_moment now early)
 
-by_date : (fields : List Field) (now : ℕ) → now < END_OF_TIME → (t : Bool) → has_one_date fields ≡ t
+by_date : (fields : List Field) (now : ℕ) → now < START_OF_YEAR_10000 → (t : Bool) → has_one_date fields ≡ t
     → has_one_date (cond t fields (without_named fields (codes "Date") ++ line (codes "Date") (date_text_of now) ∷ [])) ≡ true
 by_date fields now early true e = e
 by_date fields now early false e = replaced fields now early

@@ -3,7 +3,7 @@ use Rattle.std.proofs.Common.{◌≡◌, Bool, true, false, not, ◌||◌, List,
 use Rattle.std.specs.Prelude.{filter, ◌&&◌}
 use Rattle.hx_fields.specs.Line.{Field}
 use Rattle.hx_fields.specs.FieldLines.{is_named, members_of}
-use Rattle.hx_hop.specs.Stripping.{connection_names, is_hop_by_hop_line, is_hop_by_hop_name}
+use Rattle.hx_hop.specs.Stripping.{connection_has_option, is_hop_by_hop_line, is_hop_by_hop_name}
 use Rattle.hx_hop.specs.Asking.{fields_passed_on_of}
 use Rattle.hx_hop.specs.LinesThatGoOn.{line_is_passed_on}
 
@@ -45,5 +45,5 @@ kept_at_once fields =
     sym (
     ap (filter expect) (filter_both goes host fields)
     ∙ filter_both (λ line. goes line && host line) expect fields
-    ∙ ap (λ p. filter p fields) (λ i line. order (is_hop_by_hop_name line.name) (connection_names fields line.name) (is_named (codes "Host") line) (is_named (codes "Expect") line) i)
+    ∙ ap (λ p. filter p fields) (λ i line. order (is_hop_by_hop_name line.name) (connection_has_option fields line.name) (is_named (codes "Host") line) (is_named (codes "Expect") line) i)
     )

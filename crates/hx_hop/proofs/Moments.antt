@@ -9,8 +9,8 @@ use Rattle.httpdate.proofs.CalendarLemmas.{days_of_months_all, days_of_years_clo
 use Rattle.httpdate.proofs.FormatLemmas.{parse_complete}
 use Rattle.httpdate.proofs.Theorems.{date_text_is}
 use Rattle.httpdate.proofs.ValidLemmas.{is_valid_complete}
-use Rattle.hx_fields.specs.declared.limits.TheConstants.{END_OF_TIME}
-use Rattle.hx_hop.specs.Moments.{part_holding_day, year_and_day, month_and_day, date_parts_of, date_text_of}
+use Rattle.hx_fields.specs.declared.limits.TheConstants.{START_OF_YEAR_10000}
+use Rattle.hx_hop.specs.Moments.{part_and_day_within_it, year_and_day, month_and_day, date_parts_of, date_text_of}
 
 -- a part and a day in it, of a sum of days
 pub record IsSplit (part_days total : ℕ → ℕ) (end sum : ℕ) (found : ℕ × ℕ) : Type 0 where
@@ -21,9 +21,9 @@ pub record IsSplit (part_days total : ℕ → ℕ) (end sum : ℕ) (found : ℕ 
 module _ (part_days total : ℕ → ℕ) (next : (n : ℕ) → total (suc n) ≡ total n + part_days n) where
   one_more : (parts n days : ℕ) → total n + days < total (n + suc parts) →
       (total (suc n) + (days - part_days n) < total (suc n + parts) →
-      IsSplit part_days total (suc n + parts) (total (suc n) + (days - part_days n)) (part_holding_day part_days parts (suc n) (days - part_days n)))
+      IsSplit part_days total (suc n + parts) (total (suc n) + (days - part_days n)) (part_and_day_within_it part_days parts (suc n) (days - part_days n)))
       → (here : Bool) → nat_lt days (part_days n) ≡ here →
-      IsSplit part_days total (n + suc parts) (total n + days) (cond here (n, days) (part_holding_day part_days parts (suc n) (days - part_days n)))
+      IsSplit part_days total (n + suc parts) (total n + days) (cond here (n, days) (part_and_day_within_it part_days parts (suc n) (days - part_days n)))
   one_more parts n days h rest true e = record { within = omega arith; inside = grind (arith, nat_tests); whole = refl }
   one_more parts n days h rest false e =
       let past : part_days n ≤ days = grind (arith, nat_tests) in
@@ -33,8 +33,8 @@ module _ (part_days total : ℕ → ℕ) (next : (n : ℕ) → total (suc n) ≡
       let found = rest (omega arith) in
       record { within = omega (arith, found.within); inside = found.inside; whole = omega (arith, found.whole) }
 
-  pub split_off_splits : (parts n days : ℕ) → total n + days < total (n + parts) → IsSplit part_days total (n + parts) (total n + days) (part_holding_day part_days parts n days)
-  unfolding part_holding_day
+  pub split_off_splits : (parts n days : ℕ) → total n + days < total (n + parts) → IsSplit part_days total (n + parts) (total n + days) (part_and_day_within_it part_days parts n days)
+  unfolding part_and_day_within_it
   split_off_splits zero n days h =
       let same : n + 0 ≡ n = omega arith in
       let there : total n + days < total n = rw same at h in
@@ -83,7 +83,7 @@ day_within : (year month day : ℕ) → day < days_in_month year (suc month) →
 day_within year month day h = let next : month + 1 ≡ suc month = omega arith in rw next (omega arith)
 
 -- the numbers are a date of the calendar, of these seconds
-pub civil_of_is : (now : ℕ) → now < END_OF_TIME → IsValid (date_parts_of now) × (parts_secs (date_parts_of now) ≡ now)
+pub civil_of_is : (now : ℕ) → now < START_OF_YEAR_10000 → IsValid (date_parts_of now) × (parts_secs (date_parts_of now) ≡ now)
 civil_of_is now early =
     let years = year_splits (now / 86400) (omega arith) in
     let months = month_splits (1970 + (year_and_day (now / 86400)).0) (year_and_day (now / 86400)).1 years.inside in
@@ -98,13 +98,13 @@ civil_of_is now early =
     )
 
 -- so it is the date of which the port tells the text
-pub date_text_of_is : (date : HttpDate) (now : ℕ) → unix_secs date ≡ now → now < END_OF_TIME → date_text date ≡ date_text_of now
+pub date_text_of_is : (date : HttpDate) (now : ℕ) → unix_secs date ≡ now → now < START_OF_YEAR_10000 → date_text date ≡ date_text_of now
 date_text_of_is date now e early =
     let civil = civil_of_is now early in
     date_text_is date (date_parts_of now) (is_valid_complete _ civil.0) (e ∙ sym civil.1)
 
 -- and it is read back
-pub parse_secs-date_text_of : (now : ℕ) → now < END_OF_TIME → parse_secs (date_text_of now) ≡ Some now
+pub parse_secs-date_text_of : (now : ℕ) → now < START_OF_YEAR_10000 → parse_secs (date_text_of now) ≡ Some now
 parse_secs-date_text_of now early =
     let civil = civil_of_is now early in
     rw (parse_complete (date_text_of now) (date_parts_of now) civil.0 (inl refl), is_valid_complete _ civil.0, civil.1) refl

@@ -8,15 +8,15 @@ use Rattle.std.proofs.lemmas.Grind.{common_steps}
 use Rattle.std.proofs.lemmas.List.{get_or-set_same, get_or-set_other}
 use Rattle.std.proofs.lemmas.List.Folds.{list_any-append}
 use Rattle.std.proofs.lemmas.Slice.Eq.{bytes_eq-Decides}
-use Rattle.hx_fields.specs.FirstBytes.{begins_with_one_of, first_byte, members_beginning_in}
-use Rattle.hx_fields.specs.Folded.{folded, folded_cmp, number_of}
+use Rattle.hx_fields.specs.FirstBytes.{first_byte_is_one_of, first_byte, members_with_first_byte_in}
+use Rattle.hx_fields.specs.Folded.{folded, folded_names_cmp, number_of}
 use Rattle.hx_fields.specs.NameBuckets.{bucket_of_name, falls_in_marked_bucket}
-use Rattle.hx_fields.specs.LongMembers.{members_of_least_length}
+use Rattle.hx_fields.specs.LongMembers.{members_of_at_least_length}
 use Rattle.hx_fields.specs.Names.{is_same_name, members_of_value}
 use Rattle.hx_fields.specs.Line.{Field}
 use Rattle.hx_fields.proofs.LongNames.{long_ones_decide, shorter_differs}
 use Rattle.hx_hop.specs.Stripping.{caching_field_names}
-use Rattle.hx_hop.specs.NamedLines.{IsPrefilterOfNames, PlacesOfNamesAreTaken, AllSoughtNamesAreUnmarked, members_have_folded_name, is_name_sought_in_connection, is_present_and_unmarked, mark_after_naming, name_is_present, NamesAreMarkedBy, PrefilterPassesUnmarkedNames}
+use Rattle.hx_hop.specs.NamedLines.{IsPrefilterOfNames, PlacesOfNamesAreTaken, AllSoughtNamesAreUnmarked, members_have_folded_name, is_line_name_or_close, is_present_and_unmarked, mark_after_naming, name_is_present, NamesThatPassAreMarked, PrefilterPassesUnmarkedNames}
 use Rattle.hx_hop.specs.declared.named_lines.NamePrefilter.{NamePrefilter}
 use Rattle.hx_hop.proofs.NamedLemmas.{all_marked, any_is_cache_name, at_name, Marked, MarksOn, member_passes, one_marks}
 
@@ -35,7 +35,7 @@ no_cache_name member h =
       shorter_differs member (codes "Vary") (omega arith),
     ) refl
 
-pub listed_by_long : (value : List ℕ) → any_is_cache_name (members_of_least_length 3 value) ≡ any_is_cache_name (members_of_value value)
+pub listed_by_long : (value : List ℕ) → any_is_cache_name (members_of_at_least_length 3 value) ≡ any_is_cache_name (members_of_value value)
 listed_by_long value = long_ones_decide 3 (λ m. list_any (is_same_name m) caching_field_names) no_cache_name (members_of_value value)
 
 -- ---- those that begin otherwise
@@ -46,18 +46,18 @@ same_first [] (y ∷ b) h = absurd cc
 same_first (x ∷ a) [] h = absurd cc
 same_first (x ∷ a) (y ∷ b) h = cc
 
-module _ (firsts : List Bool) (q : List ℕ) (begin : (text : List ℕ) → folded text ≡ q → begins_with_one_of firsts text ≡ true) where
-  begun_give : (members : List (List ℕ)) → members_have_folded_name (filter (begins_with_one_of firsts) members) q ≡ members_have_folded_name members q
+module _ (firsts : List Bool) (q : List ℕ) (begin : (text : List ℕ) → folded text ≡ q → first_byte_is_one_of firsts text ≡ true) where
+  begun_give : (members : List (List ℕ)) → members_have_folded_name (filter (first_byte_is_one_of firsts) members) q ≡ members_have_folded_name members q
   begun_give [] = refl
   begun_give (m ∷ members) =
       let more = begun_give members in
-      elim (cases_Bool (begins_with_one_of firsts m)) [
-        | inl t ↦ ap (λ b. members_have_folded_name (cond b (m ∷ filter (begins_with_one_of firsts) members) (filter (begins_with_one_of firsts) members)) q) t ∙ ap (λ b. bytes_eq (folded m) q || b) more
-        | inr f ↦ ap (λ b. members_have_folded_name (cond b (m ∷ filter (begins_with_one_of firsts) members) (filter (begins_with_one_of firsts) members)) q) f ∙ more
+      elim (cases_Bool (first_byte_is_one_of firsts m)) [
+        | inl t ↦ ap (λ b. members_have_folded_name (cond b (m ∷ filter (first_byte_is_one_of firsts) members) (filter (first_byte_is_one_of firsts) members)) q) t ∙ ap (λ b. bytes_eq (folded m) q || b) more
+        | inr f ↦ ap (λ b. members_have_folded_name (cond b (m ∷ filter (first_byte_is_one_of firsts) members) (filter (first_byte_is_one_of firsts) members)) q) f ∙ more
             ∙ ap (λ b. b || members_have_folded_name members q) (sym (isnt m f))
       ]
     where
-      isnt : (m : List ℕ) → begins_with_one_of firsts m ≡ false → bytes_eq (folded m) q ≡ false
+      isnt : (m : List ℕ) → first_byte_is_one_of firsts m ≡ false → bytes_eq (folded m) q ≡ false
       isnt m f = elim (cases_Bool (bytes_eq (folded m) q)) [
         | inl t ↦ absurd (false≢true (sym f ∙ begin m ((bytes_eq-Decides (folded m) q).0 t)))
         | inr g ↦ g
@@ -70,10 +70,10 @@ same_mark a b (Some false) h = ap (λ z. mark_after_naming z (Some false)) (h re
 
 -- what is left out marks nothing that is here
 pub begun_mark : (signs : NamePrefilter) (names : Marked) (members : List (List ℕ)) → PrefilterPassesUnmarkedNames signs names
-    → MarksOn (members_have_folded_name (filter (begins_with_one_of signs.firsts.taken) members)) names (members_have_folded_name members) names
+    → MarksOn (members_have_folded_name (filter (first_byte_is_one_of signs.firsts.taken) members)) names (members_have_folded_name members) names
 begun_mark signs names members show q =
-    same_mark (members_have_folded_name (filter (begins_with_one_of signs.firsts.taken) members) q) (members_have_folded_name members q) (get folded_cmp names q)
-    (λ here. begun_give signs.firsts.taken q (λ text is. show.firsts.shown text (ap (λ z. is_present_and_unmarked (get folded_cmp names z)) is ∙ ap is_present_and_unmarked here)) members)
+    same_mark (members_have_folded_name (filter (first_byte_is_one_of signs.firsts.taken) members) q) (members_have_folded_name members q) (get folded_names_cmp names q)
+    (λ here. begun_give signs.firsts.taken q (λ text is. show.firsts.shown text (ap (λ z. is_present_and_unmarked (get folded_names_cmp names z)) is ∙ ap is_present_and_unmarked here)) members)
 
 with_one : (a b c : Bool) (g : Option Bool) → mark_after_naming b g ≡ mark_after_naming c g → mark_after_naming (a || b) g ≡ mark_after_naming (a || c) g
 with_one true b c g h = refl
@@ -82,21 +82,21 @@ with_one false b c g h = h
 module _ (signs : NamePrefilter) (names start : Marked) (all : List ℕ → Bool) (show : PrefilterPassesUnmarkedNames signs names) where
   -- the next member that begins so is the next that may mark
   pub next_marks : (value member behind : List ℕ)
-      → members_beginning_in signs.firsts.taken value ≡ member ∷ members_beginning_in signs.firsts.taken behind
+      → members_with_first_byte_in signs.firsts.taken value ≡ member ∷ members_with_first_byte_in signs.firsts.taken behind
       → MarksOn (members_have_folded_name (members_of_value value)) names all start
       → MarksOn (members_have_folded_name (member ∷ members_of_value behind)) names all start
   next_marks value member behind is h q =
-      let g = get folded_cmp names q in
-      with_one (bytes_eq (folded member) q) (members_have_folded_name (members_of_value behind) q) (members_have_folded_name (members_beginning_in signs.firsts.taken behind) q) g
+      let g = get folded_names_cmp names q in
+      with_one (bytes_eq (folded member) q) (members_have_folded_name (members_of_value behind) q) (members_have_folded_name (members_with_first_byte_in signs.firsts.taken behind) q) g
       (sym (begun_mark signs names (members_of_value behind) show q))
       ∙ ap (λ ms. mark_after_naming (members_have_folded_name ms q) g) (sym is)
       ∙ begun_mark signs names (members_of_value value) show q
       ∙ h q
 
-  pub none_marks : (value : List ℕ) → members_beginning_in signs.firsts.taken value ≡ []
-      → MarksOn (members_have_folded_name (members_of_value value)) names all start → NamesAreMarkedBy all start names
+  pub none_marks : (value : List ℕ) → members_with_first_byte_in signs.firsts.taken value ≡ []
+      → MarksOn (members_have_folded_name (members_of_value value)) names all start → NamesThatPassAreMarked all start names
   none_marks value is h = all_marked all start names (λ q.
-      ap (λ ms. mark_after_naming (members_have_folded_name ms q) (get folded_cmp names q)) (sym is)
+      ap (λ ms. mark_after_naming (members_have_folded_name ms q) (get folded_names_cmp names q)) (sym is)
       ∙ begun_mark signs names (members_of_value value) show q
       ∙ h q)
 
@@ -106,8 +106,8 @@ module _ (signs : NamePrefilter) (names start : Marked) (all : List ℕ → Bool
   fallen_passes member behind f h =
       one_marks member (members_of_value behind) all start names names (member_passes member names unmarked) h
     where
-      unmarked : is_present_and_unmarked (get folded_cmp names (folded member)) ≡ false
-      unmarked = elim (cases_Bool (is_present_and_unmarked (get folded_cmp names (folded member)))) [
+      unmarked : is_present_and_unmarked (get folded_names_cmp names (folded member)) ≡ false
+      unmarked = elim (cases_Bool (is_present_and_unmarked (get folded_names_cmp names (folded member)))) [
         | inl t ↦ absurd (false≢true (sym f ∙ show.buckets.shown member t))
         | inr g ↦ g
       ]
@@ -225,8 +225,8 @@ signs_for_fewer names rest signs of_these h = record {
 
 module _ (name : List ℕ) (old new : NamePrefilter) where
   pub signs_added : new.firsts.taken ≡ slice_set old.firsts.taken (first_byte name) true → first_byte name < length old.firsts.taken
-      → new.firsts.shared ≡ cond (begins_with_one_of old.firsts.taken name) (slice_set old.firsts.shared (first_byte name) true) old.firsts.shared
-      → (begins_with_one_of old.firsts.taken name ≡ true → first_byte name < length old.firsts.shared)
+      → new.firsts.shared ≡ cond (first_byte_is_one_of old.firsts.taken name) (slice_set old.firsts.shared (first_byte name) true) old.firsts.shared
+      → (first_byte_is_one_of old.firsts.taken name ≡ true → first_byte name < length old.firsts.shared)
       → new.buckets.taken ≡ slice_set old.buckets.taken (bucket_of_name name) true → bucket_of_name name < length old.buckets.taken
       → new.buckets.shared ≡ cond (falls_in_marked_bucket old.buckets.taken name) (slice_set old.buckets.shared (bucket_of_name name) true) old.buckets.shared
       → (falls_in_marked_bucket old.buckets.taken name ≡ true → bucket_of_name name < length old.buckets.shared)
@@ -242,7 +242,7 @@ module _ (name : List ℕ) (old new : NamePrefilter) where
             (taken_for bucket_of_name same_bucket name old.buckets.taken old.buckets.shared names h.buckets fits holds));
       }
 
-  pub signs_removed : new.firsts.taken ≡ cond (begins_with_one_of old.firsts.shared name) old.firsts.taken (slice_set old.firsts.taken (first_byte name) false)
+  pub signs_removed : new.firsts.taken ≡ cond (first_byte_is_one_of old.firsts.shared name) old.firsts.taken (slice_set old.firsts.taken (first_byte name) false)
       → new.firsts.shared ≡ old.firsts.shared
       → new.buckets.taken ≡ cond (falls_in_marked_bucket old.buckets.shared name) old.buckets.taken (slice_set old.buckets.taken (bucket_of_name name) false)
       → new.buckets.shared ≡ old.buckets.shared
@@ -251,7 +251,7 @@ module _ (name : List ℕ) (old new : NamePrefilter) where
       let left : List ℕ → Bool = λ q. names q && not (bytes_eq (folded name) q) in
       record {
         firsts = subst (λ t. PlacesOfNamesAreTaken first_byte left t new.firsts.shared) (sym first)
-            (subst (λ s. PlacesOfNamesAreTaken first_byte left (cond (begins_with_one_of old.firsts.shared name) old.firsts.taken (slice_set old.firsts.taken (first_byte name) false)) s) (sym first_shared)
+            (subst (λ s. PlacesOfNamesAreTaken first_byte left (cond (first_byte_is_one_of old.firsts.shared name) old.firsts.taken (slice_set old.firsts.taken (first_byte name) false)) s) (sym first_shared)
             (given_up first_byte same_first name old.firsts.taken old.firsts.shared names h.firsts named));
         buckets = subst (λ t. PlacesOfNamesAreTaken bucket_of_name left t new.buckets.shared) (sym bucket)
             (subst (λ s. PlacesOfNamesAreTaken bucket_of_name left (cond (falls_in_marked_bucket old.buckets.shared name) old.buckets.taken (slice_set old.buckets.taken (bucket_of_name name) false)) s) (sym bucket_shared)
@@ -273,45 +273,45 @@ without_it false true c k h = k refl
 without_it false false c k h = h
 
 module _ (done : List Field) (line : Field) where
-  lines_and_one : (q : List ℕ) → is_name_sought_in_connection (done ++ line ∷ []) q ≡ (name_is_present done q || (bytes_eq (folded line.name) q || false)) || bytes_eq (folded (codes "close")) q
+  lines_and_one : (q : List ℕ) → is_line_name_or_close (done ++ line ∷ []) q ≡ (name_is_present done q || (bytes_eq (folded line.name) q || false)) || bytes_eq (folded (codes "close")) q
   lines_and_one q = ap (λ b. b || bytes_eq (folded (codes "close")) q) (list_any-append (λ (l : Field). bytes_eq (folded l.name) q) done (line ∷ []))
 
-  pub new_name_shows : (signs : NamePrefilter) → IsPrefilterOfNames (λ q. is_name_sought_in_connection done q || bytes_eq (folded line.name) q) signs → IsPrefilterOfNames (is_name_sought_in_connection (done ++ line ∷ [])) signs
-  new_name_shows signs h = signs_for_fewer (λ q. is_name_sought_in_connection done q || bytes_eq (folded line.name) q) (is_name_sought_in_connection (done ++ line ∷ [])) signs
+  pub new_name_shows : (signs : NamePrefilter) → IsPrefilterOfNames (λ q. is_line_name_or_close done q || bytes_eq (folded line.name) q) signs → IsPrefilterOfNames (is_line_name_or_close (done ++ line ∷ [])) signs
+  new_name_shows signs h = signs_for_fewer (λ q. is_line_name_or_close done q || bytes_eq (folded line.name) q) (is_line_name_or_close (done ++ line ∷ [])) signs
       (λ q k. in_other_order (name_is_present done q) (bytes_eq (folded line.name) q) (bytes_eq (folded (codes "close")) q) (sym (lines_and_one q) ∙ k)) h
 
-  pub known_name_shows : (names : Marked) (signs : NamePrefilter) → AllSoughtNamesAreUnmarked done names → is_none (get folded_cmp names (folded line.name)) ≡ false
-      → IsPrefilterOfNames (is_name_sought_in_connection done) signs → IsPrefilterOfNames (is_name_sought_in_connection (done ++ line ∷ [])) signs
-  known_name_shows names signs are known h = signs_for_fewer (is_name_sought_in_connection done) (is_name_sought_in_connection (done ++ line ∷ [])) signs
+  pub known_name_shows : (names : Marked) (signs : NamePrefilter) → AllSoughtNamesAreUnmarked done names → is_none (get folded_names_cmp names (folded line.name)) ≡ false
+      → IsPrefilterOfNames (is_line_name_or_close done) signs → IsPrefilterOfNames (is_line_name_or_close (done ++ line ∷ [])) signs
+  known_name_shows names signs are known h = signs_for_fewer (is_line_name_or_close done) (is_line_name_or_close (done ++ line ∷ [])) signs
       (λ q k. without_it (name_is_present done q) (bytes_eq (folded line.name) q) (bytes_eq (folded (codes "close")) q) (here q) (sym (lines_and_one q) ∙ k)) h
     where
       there : (b : Bool) → is_none (cond b (Some false) None) ≡ false → b ≡ true
       there true e = refl
       there false e = sym e
 
-      here : (q : List ℕ) → bytes_eq (folded line.name) q ≡ true → is_name_sought_in_connection done q ≡ true
-      here q e = ap (is_name_sought_in_connection done) (sym ((bytes_eq-Decides (folded line.name) q).0 e))
-          ∙ there (is_name_sought_in_connection done (folded line.name)) (sym (ap is_none (are (folded line.name))) ∙ known)
+      here : (q : List ℕ) → bytes_eq (folded line.name) q ≡ true → is_line_name_or_close done q ≡ true
+      here q e = ap (is_line_name_or_close done) (sym ((bytes_eq-Decides (folded line.name) q).0 e))
+          ∙ there (is_line_name_or_close done (folded line.name)) (sym (ap is_none (are (folded line.name))) ∙ known)
 
-pub close_shows : (signs : NamePrefilter) → IsPrefilterOfNames (λ q. false || bytes_eq (folded (codes "close")) q) signs → IsPrefilterOfNames (is_name_sought_in_connection []) signs
+pub close_shows : (signs : NamePrefilter) → IsPrefilterOfNames (λ q. false || bytes_eq (folded (codes "close")) q) signs → IsPrefilterOfNames (is_line_name_or_close []) signs
 close_shows signs h = h
 
 -- ---- the signs of what isn't marked
 
-pub unmarked_show : (fields : List Field) (names : Marked) (signs : NamePrefilter) → AllSoughtNamesAreUnmarked fields names → IsPrefilterOfNames (is_name_sought_in_connection fields) signs → PrefilterPassesUnmarkedNames signs names
-unmarked_show fields names signs are h = signs_for_fewer (is_name_sought_in_connection fields) (λ q. is_present_and_unmarked (get folded_cmp names q)) signs
-    (λ q k. by (is_name_sought_in_connection fields q) (sym (ap is_present_and_unmarked (are q)) ∙ k)) h
+pub unmarked_show : (fields : List Field) (names : Marked) (signs : NamePrefilter) → AllSoughtNamesAreUnmarked fields names → IsPrefilterOfNames (is_line_name_or_close fields) signs → PrefilterPassesUnmarkedNames signs names
+unmarked_show fields names signs are h = signs_for_fewer (is_line_name_or_close fields) (λ q. is_present_and_unmarked (get folded_names_cmp names q)) signs
+    (λ q k. by (is_line_name_or_close fields q) (sym (ap is_present_and_unmarked (are q)) ∙ k)) h
   where
     by : (b : Bool) → is_present_and_unmarked (cond b (Some false) None) ≡ true → b ≡ true
     by true e = refl
     by false e = e
 
 pub marked_shows_no_more : (member : List ℕ) (old new : Marked) (signs : NamePrefilter)
-    → ((q : List ℕ) → get folded_cmp new q ≡ cond (is_at (folded_cmp (folded member)) q) (Some true) (get folded_cmp old q))
-    → IsPrefilterOfNames (λ q. is_present_and_unmarked (get folded_cmp old q) && not (bytes_eq (folded member) q)) signs → PrefilterPassesUnmarkedNames signs new
-marked_shows_no_more member old new signs u h = signs_for_fewer (λ q. is_present_and_unmarked (get folded_cmp old q) && not (bytes_eq (folded member) q))
-    (λ q. is_present_and_unmarked (get folded_cmp new q)) signs
-    (λ q k. by (bytes_eq (folded member) q) (get folded_cmp old q) (sym (ap is_present_and_unmarked (at_name (folded member) true old new u q)) ∙ k)) h
+    → ((q : List ℕ) → get folded_names_cmp new q ≡ cond (is_at (folded_names_cmp (folded member)) q) (Some true) (get folded_names_cmp old q))
+    → IsPrefilterOfNames (λ q. is_present_and_unmarked (get folded_names_cmp old q) && not (bytes_eq (folded member) q)) signs → PrefilterPassesUnmarkedNames signs new
+marked_shows_no_more member old new signs u h = signs_for_fewer (λ q. is_present_and_unmarked (get folded_names_cmp old q) && not (bytes_eq (folded member) q))
+    (λ q. is_present_and_unmarked (get folded_names_cmp new q)) signs
+    (λ q k. by (bytes_eq (folded member) q) (get folded_names_cmp old q) (sym (ap is_present_and_unmarked (at_name (folded member) true old new u q)) ∙ k)) h
   where
     and_true : (p : Bool) → p ≡ true → p && true ≡ true
     and_true true e = refl

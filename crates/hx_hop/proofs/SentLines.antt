@@ -9,8 +9,8 @@ use Rattle.hx_fields.specs.Names.{is_same_name}
 use Rattle.hx_hop.specs.declared.conditions.Conditions.{Conditions}
 use Rattle.hx_hop.specs.Asking.{fields_passed_on_of}
 use Rattle.hx_hop.specs.Forwarding.{forwarded_client_lines, condition_lines, forwarded_of, host_text, is_condition_line, line, line_if_present, via_text}
-use Rattle.hx_hop.specs.PassedOnFields.{ConnectionClosesWhereAsked, WithheldConditionsAreNotForwarded, AnswerKeepsItsStatus, DefaultPortIsLeftOut, NoExpectIsForwarded, NoHopFieldIsForwarded, NoLengthFieldIsForwarded, MethodTargetAndContentAreForwarded, ConnectionStaysOpenWithoutClose, ViaShowsTheVersion, NonDefaultPortsAreWritten}
-use Rattle.hx_hop.specs.Stripping.{connection_names, hop_by_hop_names, is_hop_by_hop_line, is_hop_by_hop_name, stripped}
+use Rattle.hx_hop.specs.PassedOnFields.{ConnectionClosesWhereAsked, WithheldConditionsAreNotForwarded, AnswerKeepsItsStatus, DefaultPortIsLeftOut, NoExpectIsForwarded, NoHopFieldIsInForwardedRequest, NoLengthFieldIsForwarded, MethodTargetAndContentAreForwarded, ConnectionStaysOpenWithoutClose, ViaShowsTheVersion, NonDefaultPortsAreWritten}
+use Rattle.hx_hop.specs.Stripping.{connection_has_option, hop_by_hop_names, is_hop_by_hop_line, is_hop_by_hop_name, stripped}
 use Rattle.hx_hop.proofs.Lines.{is_among-same, list_any_fewer, list_any_none_left, not_true}
 use Rattle.hx_hop.proofs.Stripped.{takes_out_theirs}
 
@@ -53,10 +53,10 @@ module _ (q : Field → Bool) where
       → list_any q (host ∷ (client ++ conditions ++ via ∷ [])) ≡ false
   sends_none host via client conditions h c d v = rw (h, list_any-append q (client ++ conditions) (via ∷ []), list_any-append q client conditions, c, d, v) refl
 
-pub sends_no_hop_field : NoHopFieldIsForwarded
+pub sends_no_hop_field : NoHopFieldIsInForwardedRequest
 sends_no_hop_field keeps request target name conditions field hop =
     let q = is_named field in
-    let out = takes_out_theirs request.fields field (listed (is_hop_by_hop_name field) (connection_names request.fields field) hop) in
+    let out = takes_out_theirs request.fields field (listed (is_hop_by_hop_name field) (connection_has_option request.fields field) hop) in
     sends_none q (line (codes "Host") (host_text target.key)) (line (codes "Via") (via_text request.minor name)) (forwarded_client_lines (keeps || is_some conditions) (fields_passed_on_of request.fields)) (condition_lines conditions)
     (own_name (codes "Host") field refl hop) (client_none q (keeps || is_some conditions) request.fields (kept_none q request.fields out))
     (conditions_none q conditions (λ v. own_name (codes "If-None-Match") field refl hop) (λ v. own_name (codes "If-Modified-Since") field refl hop))

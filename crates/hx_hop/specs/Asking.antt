@@ -7,7 +7,7 @@ use Rattle.hx_target.specs.declared.target_fault.TargetFault.{TargetFault}
 use Rattle.hx_target.specs.declared.targets.Target.{Target}
 use Rattle.hx_target.specs.Judgement.{TargetIsJudged}
 use Rattle.hx_hop.specs.declared.request_view.Asked.{Asked}
-use Rattle.hx_hop.specs.Stripping.{connection_names, stripped}
+use Rattle.hx_hop.specs.Stripping.{connection_has_option, stripped}
 
 -- The lines that go on: the target has taken in Host, and the reader has carried out Expect (RFC 9110, section 10.1.1).
 abbrev pub fields_passed_on_of : List Field → List Field
@@ -16,7 +16,7 @@ fields_passed_on_of fields = without_named (without_named (stripped fields) (cod
 -- the client's connection closes after the answer (RFC 9112, section 9.6)
 -- own: that of an HTTP/1.0 client always does ("Connections of HTTP/1.0 close")
 abbrev pub client_connection_closes : Request → Bool
-client_connection_closes request = (request.minor == 0) || connection_names request.fields (codes "close")
+client_connection_closes request = (request.minor == 0) || connection_has_option request.fields (codes "close")
 
 -- the request with its target read
 abbrev pub asked_with_target : Request → Target → Asked

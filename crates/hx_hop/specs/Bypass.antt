@@ -16,5 +16,5 @@ abbrev pub asks_for_range : Asked → Bool
 asks_for_range asked = has_field asked.fields (codes "Range") || has_field asked.fields (codes "If-Range")
 
 -- a precondition that only the origin can judge
-abbrev pub has_precondition : Asked → Bool
-has_precondition asked = has_field asked.fields (codes "If-Match") || has_field asked.fields (codes "If-Unmodified-Since")
+abbrev pub has_precondition_for_origin : Asked → Bool
+has_precondition_for_origin asked = has_field asked.fields (codes "If-Match") || has_field asked.fields (codes "If-Unmodified-Since")

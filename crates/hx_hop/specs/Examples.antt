@@ -19,8 +19,8 @@ first_example_asked = record {
 }
 
 -- by a client of HTTP/1.0, with conditions and content of its own
-abbrev pub asked_by_old_client : Asked
-asked_by_old_client = record {
+abbrev pub example_http_1_0_request : Asked
+example_http_1_0_request = record {
   method = codes "POST";
   minor = 0;
   target = record { key = record { host = codes "h"; port = 81; path_query = codes "/a" }; table_path = codes "/a" };
@@ -57,8 +57,8 @@ abbrev pub date_line : List ℕ → Field
 date_line text = line (codes "Date") text
 
 -- lines of one connection in any case beside some that only look like them
-abbrev pub hop_by_hop_and_similar_fields : List Field
-hop_by_hop_and_similar_fields =
+abbrev pub example_hop_by_hop_and_similar_fields : List Field
+example_hop_by_hop_and_similar_fields =
     line (codes "cONNECTION") (codes "close, x-a ,, \"b, c\"") ∷ line (codes "X-A") (codes "1") ∷ line (codes "pROXY-aUTHENTICATE") (codes "Basic")
     ∷ line (codes "Proxy-Authenticat") (codes "2") ∷ line (codes "Connection") (codes "ETag") ∷ line (codes "ETag") (codes "\"v1\"")
     ∷ line (codes "Keep-Alive") (codes "5") ∷ line (codes "B") (codes "3") ∷ []
@@ -67,8 +67,8 @@ hop_by_hop_and_similar_fields =
 abbrev pub first_example_asked_with_line : List ℕ → List ℕ → Asked
 first_example_asked_with_line name value = record first_example_asked { fields = line name value ∷ [] }
 
-abbrev pub asked_of_content : Option (List ℕ) → Asked
-asked_of_content content = record first_example_asked { content = content }
+abbrev pub example_asked_with_content : Option (List ℕ) → Asked
+example_asked_with_content content = record first_example_asked { content = content }
 
 -- a Connection line that names this
 abbrev pub connection_fields_naming : List ℕ → List Field

@@ -1,7 +1,7 @@
 -- The date of a moment, as messages write it (RFC 9110, section 5.6.7). A moment is a number of whole seconds
 -- since 1970, without leap seconds.
 --
--- part_holding_day: whole parts of a calendar, and the days that are left
+-- part_and_day_within_it: whole parts of a calendar, and the days that are left
 -- date_parts_of: the day, the time and the week day
 -- date_text_of: IMF-fixdate
 use Rattle.std.specs.Prelude.{ℕ, zero, suc, ◌+◌, ◌-◌, ◌/◌, ◌%◌, nat_lt, if◌then◌else◌, List}
@@ -10,18 +10,18 @@ use Rattle.httpdate.specs.Text.{imf_fixdate}
 use Rattle.httpdate.specs.declared.parts.Parts.{Parts}
 
 -- of some days from the start of part n: which of the next parts holds the last, and which of its days that is
-unfoldable pub part_holding_day : (ℕ → ℕ) → ℕ → ℕ → ℕ → ℕ × ℕ
-part_holding_day part_days zero n days = (n, days)
-part_holding_day part_days (suc parts) n days =
-    if nat_lt days (part_days n) then (n, days) else part_holding_day part_days parts (suc n) (days - part_days n)
+unfoldable pub part_and_day_within_it : (ℕ → ℕ) → ℕ → ℕ → ℕ → ℕ × ℕ
+part_and_day_within_it part_days zero n days = (n, days)
+part_and_day_within_it part_days (suc parts) n days =
+    if nat_lt days (part_days n) then (n, days) else part_and_day_within_it part_days parts (suc n) (days - part_days n)
 
 -- the year from 1970 on, of 8030 up to 9999, and the day of that year, from 0
 abbrev pub year_and_day : ℕ → ℕ × ℕ
-year_and_day days = part_holding_day (λ n. days_in_year (1970 + n)) 8030 0 days
+year_and_day days = part_and_day_within_it (λ n. days_in_year (1970 + n)) 8030 0 days
 
 -- the month of a year and the day of that month, both from 0
 abbrev pub month_and_day : ℕ → ℕ → ℕ × ℕ
-month_and_day year days = part_holding_day (λ n. days_in_month year (suc n)) 12 0 days
+month_and_day year days = part_and_day_within_it (λ n. days_in_month year (suc n)) 12 0 days
 
 -- the numbers that a date shows
 abbrev pub date_parts_of : ℕ → Parts

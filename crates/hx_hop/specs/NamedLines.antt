@@ -4,7 +4,7 @@ use Rattle.std.specs.Prelude.{bytes_eq, slice_index_or, Option, Some, None}
 use Rattle.std.specs.List.{list_any}
 use Rattle.std.specs.BTreeMap.{BTreeMap, get}
 use Rattle.hx_fields.specs.FirstBytes.{first_byte}
-use Rattle.hx_fields.specs.Folded.{folded, folded_cmp}
+use Rattle.hx_fields.specs.Folded.{folded, folded_names_cmp}
 use Rattle.hx_fields.specs.NameBuckets.{bucket_of_name}
 use Rattle.hx_fields.specs.FieldLines.{line_count_of_name, is_named, members_of}
 use Rattle.hx_fields.specs.Names.{members_of_value}
@@ -22,32 +22,32 @@ abbrev pub name_is_present : List Field → List ℕ → Bool
 name_is_present lines q = list_any (λ (line : Field). bytes_eq (folded line.name) q) lines
 
 -- what is looked for among the members: the names of lines, and `close` (RFC 9110, section 7.6.1)
-abbrev pub is_name_sought_in_connection : List Field → List ℕ → Bool
-is_name_sought_in_connection lines q = name_is_present lines q || bytes_eq (folded (codes "close")) q
+abbrev pub is_line_name_or_close : List Field → List ℕ → Bool
+is_line_name_or_close lines q = name_is_present lines q || bytes_eq (folded (codes "close")) q
 
 -- one of these is this folded name
 abbrev pub members_have_folded_name : List (List ℕ) → List ℕ → Bool
 members_have_folded_name members q = list_any (λ member. bytes_eq (folded member) q) members
 
-abbrev pub names_in_value : List ℕ → List ℕ → Bool
-names_in_value value q = members_have_folded_name (members_of_value value) q
+abbrev pub value_lists_folded_name : List ℕ → List ℕ → Bool
+value_lists_folded_name value q = members_have_folded_name (members_of_value value) q
 
-abbrev pub names_in_connection : List Field → List ℕ → Bool
-names_in_connection fields q = members_have_folded_name (members_of fields (codes "Connection")) q
+abbrev pub connection_has_folded_option : List Field → List ℕ → Bool
+connection_has_folded_option fields q = members_have_folded_name (members_of fields (codes "Connection")) q
 
 -- what is looked for, none of it marked
 abbrev pub AllSoughtNamesAreUnmarked : List Field → BTreeMap (List ℕ) Bool → Type 0
-AllSoughtNamesAreUnmarked fields names = (q : List ℕ) → get folded_cmp names q ≡
-    (if is_name_sought_in_connection fields q then Some false else None)
+AllSoughtNamesAreUnmarked fields names = (q : List ℕ) → get folded_names_cmp names q ≡
+    (if is_line_name_or_close fields q then Some false else None)
 
 -- a name that is there is marked where it was, or is marked now
 abbrev pub mark_after_naming : Bool → Option Bool → Option Bool
 mark_after_naming now None = None
 mark_after_naming now (Some before) = Some (before || now)
 
-abbrev pub NamesAreMarkedBy : (List ℕ → Bool) → BTreeMap (List ℕ) Bool → BTreeMap (List ℕ) Bool → Type 0
-NamesAreMarkedBy marks old new = (q : List ℕ) → get folded_cmp new q ≡ mark_after_naming (marks q)
-    (get folded_cmp old q)
+abbrev pub NamesThatPassAreMarked : (List ℕ → Bool) → BTreeMap (List ℕ) Bool → BTreeMap (List ℕ) Bool → Type 0
+NamesThatPassAreMarked marks old new = (q : List ℕ) → get folded_names_cmp new q ≡ mark_after_naming (marks q)
+    (get folded_names_cmp old q)
 
 abbrev pub is_present_and_unmarked : Option Bool → Bool
 is_present_and_unmarked None = false
@@ -72,4 +72,4 @@ pub record IsPrefilterOfNames (names : List ℕ → Bool) (signs : NamePrefilter
 -- the names that are there and not marked show them
 abbrev pub PrefilterPassesUnmarkedNames : NamePrefilter → BTreeMap (List ℕ) Bool → Type 0
 PrefilterPassesUnmarkedNames signs names =
-    IsPrefilterOfNames (λ q. is_present_and_unmarked (get folded_cmp names q)) signs
+    IsPrefilterOfNames (λ q. is_present_and_unmarked (get folded_names_cmp names q)) signs

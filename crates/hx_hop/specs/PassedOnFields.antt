@@ -4,7 +4,7 @@ use Rattle.std.specs.Prelude.{◌≡◌, ◌⊎◌, ℕ, ◌<◌, ◌==◌, Bool
 use Rattle.std.specs.Prelude.{Option}
 use Rattle.std.specs.Prelude.{Some, None}
 use Rattle.httpdate.specs.Date.{parse_secs}
-use Rattle.hx_fields.specs.declared.limits.TheConstants.{END_OF_TIME}
+use Rattle.hx_fields.specs.declared.limits.TheConstants.{START_OF_YEAR_10000}
 use Rattle.hx_fields.specs.Line.{Field}
 use Rattle.hx_fields.specs.FieldLines.{line_count_of_name, has_field, values_of}
 use Rattle.hx_framing.specs.declared.messages.Request.{Request}
@@ -17,17 +17,17 @@ use Rattle.hx_hop.specs.Asking.{asked_with_target}
 use Rattle.hx_hop.specs.declared.request_view.Asked.{Asked}
 use Rattle.hx_hop.specs.Forwarding.{forwarded_lines, forwarded_of, host_text, line, via_text}
 use Rattle.hx_hop.specs.Moments.{date_text_of}
-use Rattle.hx_hop.specs.Stripping.{connection_names, is_hop_by_hop_name, stripped}
+use Rattle.hx_hop.specs.Stripping.{connection_has_option, is_hop_by_hop_name, stripped}
 
 -- a field of one connection doesn't go on, nor one that a member of Connection names
 abbrev pub HopByHopFieldsAreRemoved : Type 0
 HopByHopFieldsAreRemoved = (fields : List Field) (name : List ℕ) →
-    is_hop_by_hop_name name || connection_names fields name ≡ true → has_field (stripped fields) name ≡ false
+    is_hop_by_hop_name name || connection_has_option fields name ≡ true → has_field (stripped fields) name ≡ false
 
 -- every other field goes on with all its lines
 abbrev pub EndToEndFieldsAreKept : Type 0
 EndToEndFieldsAreKept = (fields : List Field) (name : List ℕ) →
-    is_hop_by_hop_name name || connection_names fields name ≡ false → values_of (stripped fields) name
+    is_hop_by_hop_name name || connection_has_option fields name ≡ false → values_of (stripped fields) name
     ≡ values_of fields name
 
 -- what was stripped has nothing left to strip
@@ -36,16 +36,16 @@ StrippingIsIdempotent = (fields : List Field) → stripped (stripped fields) ≡
 
 -- the text of a moment is the date of that moment
 abbrev pub DateTextReadsBackAsItsMoment : Type 0
-DateTextReadsBackAsItsMoment = (now : ℕ) → now < END_OF_TIME → parse_secs (date_text_of now) ≡ Some now
+DateTextReadsBackAsItsMoment = (now : ℕ) → now < START_OF_YEAR_10000 → parse_secs (date_text_of now) ≡ Some now
 
 -- what was dated has one valid Date
 abbrev pub DatedHasOneDate : Type 0
-DatedHasOneDate = (fields : List Field) (now : ℕ) → now < END_OF_TIME
+DatedHasOneDate = (fields : List Field) (now : ℕ) → now < START_OF_YEAR_10000
     → has_one_date (fields_with_valid_date fields now) ≡ true
 
 -- so it isn't dated again
 abbrev pub DatingIsIdempotent : Type 0
-DatingIsIdempotent = (fields : List Field) (now later : ℕ) → now < END_OF_TIME
+DatingIsIdempotent = (fields : List Field) (now later : ℕ) → now < START_OF_YEAR_10000
     → fields_with_valid_date (fields_with_valid_date fields now) later ≡ fields_with_valid_date fields now
 
 -- whatever a request had, one Host line goes forward
@@ -62,8 +62,8 @@ ForwardEndsWithVia = (keeps : Bool) (request : Request) (target : Target) (name 
     ≡ front ++ line (codes "Via") (via_text request.minor name) ∷ [])
 
 -- no field of one connection goes forward, whatever the request had (RFC 9110, section 7.6.1)
-abbrev pub NoHopFieldIsForwarded : Type 0
-NoHopFieldIsForwarded =
+abbrev pub NoHopFieldIsInForwardedRequest : Type 0
+NoHopFieldIsInForwardedRequest =
     (keeps : Bool) (request : Request) (target : Target) (name : List ℕ) (conditions : Option Conditions)
     (field : List ℕ) →
     is_hop_by_hop_name field ≡ true
@@ -114,12 +114,12 @@ ViaShowsTheVersion = (name : List ℕ) → (via_text 0 name ≡ codes "1.0 " ++ 
 -- the connection of a client of HTTP/1.0 closes, and that of another where it says close (RFC 9112, section 9.6)
 abbrev pub ConnectionClosesWhereAsked : Type 0
 ConnectionClosesWhereAsked = (request : Request) (target : Target) →
-    (request.minor ≡ 0) ⊎ (connection_names request.fields (codes "close") ≡ true) →
+    (request.minor ≡ 0) ⊎ (connection_has_option request.fields (codes "close") ≡ true) →
     (asked_with_target request target).close ≡ true
 
 abbrev pub ConnectionStaysOpenWithoutClose : Type 0
 ConnectionStaysOpenWithoutClose = (request : Request) (target : Target) →
-    request.minor ≡ 1 → connection_names request.fields (codes "close") ≡ false →
+    request.minor ≡ 1 → connection_has_option request.fields (codes "close") ≡ false →
     (asked_with_target request target).close ≡ false
 
 -- an answer keeps its status

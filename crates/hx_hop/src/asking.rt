@@ -4,11 +4,11 @@ ghost use Rattle.hx_fields.specs.FieldLines.{values_of};
 ghost use Rattle.hx_target.specs.Judgement.{is_malformed};
 ghost use Rattle.hx_hop.specs.Asking.{fields_passed_on_of, asked_with_target};
 ghost use Rattle.hx_hop.specs.Asking.{asked_with_judged_target, RequestIsReadAsAsked};
-ghost use Rattle.hx_hop.specs.Stripping.{connection_names};
+ghost use Rattle.hx_hop.specs.Stripping.{connection_has_option};
 ghost use Rattle.hx_hop.specs.LinesThatGoOn.{line_is_passed_on};
 
 use crate::Asked;
-use crate::named_lines::{Stripped, connection_has_many_members, strip_with_many_members};
+use crate::named_lines::{StrippedFields, connection_has_many_members, strip_with_many_members};
 use crate::request_view::copy_content;
 use crate::stripping::{is_hop_by_hop_name, name_is_among};
 use hx_fields::{Field, Fields, Members, is_same_name};
@@ -17,24 +17,24 @@ use hx_target::{Target, TargetFault, read_target};
 use std::alloc::{AllocError, Global};
 
 /// What goes on, and whether the client's connection is to close.
-fn stripped_request(alloc: Global, fields: &Fields) -> Result<Stripped, AllocError>
+fn stripped_request(alloc: Global, fields: &Fields) -> Result<StrippedFields, AllocError>
     ensures lines { IfOk result (λ kept. kept.fields ≡ fields_passed_on_of fields.now) }
-    ensures closes { IfOk result (λ kept. kept.closes ≡ connection_names fields.now (codes "close")) }
+    ensures closes { IfOk result (λ kept. kept.closes ≡ connection_has_option fields.now (codes "close")) }
 {
     if connection_has_many_members(fields) {
         return stripped_of_many(alloc, fields);
     }
     let named = fields.members(alloc, b"Connection")?;
-    Ok(Stripped {
+    Ok(StrippedFields {
         closes: name_is_among(&named, b"close"),
         fields: keep_few(alloc, fields, &named)?,
     })
 }
 
 /// The same where Connection has many members.
-fn stripped_of_many(alloc: Global, fields: &Fields) -> Result<Stripped, AllocError>
+fn stripped_of_many(alloc: Global, fields: &Fields) -> Result<StrippedFields, AllocError>
     ensures lines { IfOk result (λ kept. kept.fields ≡ fields_passed_on_of fields.now) }
-    ensures closes { IfOk result (λ kept. kept.closes ≡ connection_names fields.now (codes "close")) }
+    ensures closes { IfOk result (λ kept. kept.closes ≡ connection_has_option fields.now (codes "close")) }
 {
     let mut kept = strip_with_many_members(alloc, fields)?;
     kept.fields.remove_named(b"Host");

@@ -6,23 +6,24 @@ ghost use Rattle.hx_framing.specs.Text.{request_text};
 ghost use Rattle.hx_target.specs.declared.target_fault.TargetFault.{TargetFault};
 ghost use Rattle.hx_hop.specs.declared.request_view.Asked.{Asked as AskedFor};
 ghost use Rattle.hx_hop.specs.Answering.{answered_of, fields_with_valid_date};
-ghost use Rattle.hx_hop.specs.Bypass.{asks_for_range, request_has_content, has_precondition};
+ghost use Rattle.hx_hop.specs.Bypass.{asks_for_range, request_has_content, has_precondition_for_origin};
 ghost use Rattle.hx_hop.specs.Asking.{RequestIsReadAsAsked, asked_with_target, client_connection_closes};
 ghost use Rattle.hx_hop.specs.Asking.{fields_passed_on_of};
-ghost use Rattle.hx_hop.specs.Examples.{request_in_absolute_form, target_of_absolute_form, asked_of_content};
-ghost use Rattle.hx_hop.specs.Examples.{asked_by_old_client};
+ghost use Rattle.hx_hop.specs.Examples.{request_in_absolute_form, target_of_absolute_form, example_asked_with_content};
+ghost use Rattle.hx_hop.specs.Examples.{example_http_1_0_request};
 ghost use Rattle.hx_hop.specs.Examples.{first_example_asked_with_line, first_example_conditions};
 ghost use Rattle.hx_hop.specs.Examples.{conditions_by_tag_and_date, connection_fields_naming, date_line};
 ghost use Rattle.hx_hop.specs.Examples.{first_example_asked};
-ghost use Rattle.hx_hop.specs.Examples.{hop_by_hop_and_similar_fields, response_with_fields};
+ghost use Rattle.hx_hop.specs.Examples.{example_hop_by_hop_and_similar_fields, response_with_fields};
 ghost use Rattle.hx_hop.specs.Forwarding.{line, host_text, forwarded_client_lines, via_text, forwarded_lines};
 ghost use Rattle.hx_hop.specs.Forwarding.{forwarded_of};
 ghost use Rattle.hx_hop.specs.Moments.{date_text_of};
-ghost use Rattle.hx_hop.specs.Stripping.{connection_names, is_hop_by_hop_name, lists_cache_field, stripped};
+ghost use Rattle.hx_hop.specs.Stripping.{connection_has_option, is_hop_by_hop_name, connection_names_caching_field};
+ghost use Rattle.hx_hop.specs.Stripping.{stripped};
 ghost use Rattle.hx_hop.specs.PassedOnFields.{HopByHopFieldsAreRemoved, EndToEndFieldsAreKept, StrippingIsIdempotent};
 ghost use Rattle.hx_hop.specs.PassedOnFields.{DateTextReadsBackAsItsMoment, DatedHasOneDate};
 ghost use Rattle.hx_hop.specs.PassedOnFields.{DatingIsIdempotent, ExactlyOneHostIsForwarded, ForwardEndsWithVia};
-ghost use Rattle.hx_hop.specs.PassedOnFields.{NoHopFieldIsForwarded, NoExpectIsForwarded};
+ghost use Rattle.hx_hop.specs.PassedOnFields.{NoHopFieldIsInForwardedRequest, NoExpectIsForwarded};
 ghost use Rattle.hx_hop.specs.PassedOnFields.{NoLengthFieldIsForwarded, MethodTargetAndContentAreForwarded};
 ghost use Rattle.hx_hop.specs.PassedOnFields.{DefaultPortIsLeftOut};
 ghost use Rattle.hx_hop.specs.PassedOnFields.{NonDefaultPortsAreWritten, WithheldConditionsAreNotForwarded};
@@ -33,7 +34,7 @@ ghost use Rattle.hx_hop.specs.PassedOnFields.{AnswerKeepsItsStatus};
 use hx_target::laws::judgement_of_a_target_is_unique;
 
 /// A request is asked in one way.
-pub fn asked_request_is_unique()
+pub fn request_is_asked_in_one_way()
     ensures { (request : Request) (r s : Result AskedFor TargetFault) → RequestIsReadAsAsked request r
         → RequestIsReadAsAsked request s → r ≡ s }
 {
@@ -51,9 +52,9 @@ pub fn worked_first_forwarded_request()
     ensures conditional_size { length
         (request_text (forwarded_of false first_example_asked (codes "edge") (Some first_example_conditions)))
         ≡ 83 }
-    ensures other_port { host_text asked_by_old_client.target.key ≡ codes "h:" ++ decimal 81 }
-    ensures replaced { forwarded_client_lines true asked_by_old_client.fields ≡ line (codes "Accept") (codes "*/*") ∷ [] }
-    ensures older { via_text asked_by_old_client.minor (codes "edge") ≡ codes "1.0 edge" }
+    ensures other_port { host_text example_http_1_0_request.target.key ≡ codes "h:" ++ decimal 81 }
+    ensures replaced { forwarded_client_lines true example_http_1_0_request.fields ≡ line (codes "Accept") (codes "*/*") ∷ [] }
+    ensures older { via_text example_http_1_0_request.minor (codes "edge") ≡ codes "1.0 edge" }
 {}
 
 /// What goes on is what concerns no connection, and with that nothing is left to take out.
@@ -78,7 +79,7 @@ pub fn forward_has_one_host_and_ends_with_via()
 
 /// A target in absolute form replaces Host, and a member of Connection takes its field with it.
 #[tactic(auto, unfolding(crate::specs::Forwarding::forwarded_of))]
-pub fn absolute_form_is_rewritten()
+pub fn worked_absolute_form_is_rewritten()
     ensures kept { fields_passed_on_of request_in_absolute_form.fields ≡ line (codes "X-B") (codes "2") ∷ [] }
     ensures text { request_text (forwarded_of false (asked_with_target request_in_absolute_form target_of_absolute_form)
         (codes "edge") None)
@@ -92,16 +93,16 @@ pub fn absolute_form_is_rewritten()
 
 /// Names go without case and whole; several Connection lines count; a comma in quotes separates nothing.
 pub fn worked_connection_members_removed()
-    ensures stripped { stripped hop_by_hop_and_similar_fields ≡ line (codes "Proxy-Authenticat") (codes "2")
+    ensures stripped { stripped example_hop_by_hop_and_similar_fields ≡ line (codes "Proxy-Authenticat") (codes "2")
         ∷ line (codes "B") (codes "3") ∷ [] }
-    ensures close { connection_names hop_by_hop_and_similar_fields (codes "close") ≡ true }
-    ensures quoted { connection_names hop_by_hop_and_similar_fields (codes "b") ≡ false }
-    ensures tag { lists_cache_field hop_by_hop_and_similar_fields ≡ true }
-    ensures no_cache_field { lists_cache_field request_in_absolute_form.fields ≡ false }
+    ensures close { connection_has_option example_hop_by_hop_and_similar_fields (codes "close") ≡ true }
+    ensures quoted { connection_has_option example_hop_by_hop_and_similar_fields (codes "b") ≡ false }
+    ensures tag { connection_names_caching_field example_hop_by_hop_and_similar_fields ≡ true }
+    ensures no_cache_field { connection_names_caching_field request_in_absolute_form.fields ≡ false }
 {}
 
 /// A response received at 101 without Date, with two, with one that is none, and with one.
-#[tactic(auto, unfolding(httpdate::proofs::OnLiterals::httpdate_on_literals, crate::specs::Moments::part_holding_day))]
+#[tactic(auto, unfolding(httpdate::proofs::OnLiterals::httpdate_on_literals, crate::specs::Moments::part_and_day_within_it))]
 pub fn missing_date_is_added()
     ensures missing { answered_of (response_with_fields (line (codes "X") (codes "1") ∷ [])) 101
         ≡ record { status = 200; fields = line (codes "X") (codes "1") ∷ date_line (codes "Thu, 01 Jan 1970 00:01:41 GMT") ∷ [] } }
@@ -114,7 +115,7 @@ pub fn missing_date_is_added()
 {}
 
 /// The standard's date, a leap day, and the last second of the year 9999.
-#[tactic(auto, unfolding(httpdate::proofs::OnLiterals::httpdate_on_literals, crate::specs::Moments::part_holding_day))]
+#[tactic(auto, unfolding(httpdate::proofs::OnLiterals::httpdate_on_literals, crate::specs::Moments::part_and_day_within_it))]
 pub fn worked_date_texts()
     ensures standard { date_text_of 784111777 ≡ codes "Sun, 06 Nov 1994 08:49:37 GMT" }
     ensures leap_day { date_text_of 951782400 ≡ codes "Tue, 29 Feb 2000 00:00:00 GMT" }
@@ -129,7 +130,7 @@ pub fn withheld_conditions_are_not_forwarded()
 /// What concerns the client's connection doesn't go forward, nor do Expect and the client's length;
 /// what was asked does.
 pub fn only_what_was_asked_goes_forward()
-    ensures hop { NoHopFieldIsForwarded }
+    ensures hop { NoHopFieldIsInForwardedRequest }
     ensures expect { NoExpectIsForwarded }
     ensures length { NoLengthFieldIsForwarded }
     ensures asked { MethodTargetAndContentAreForwarded }
@@ -194,20 +195,20 @@ pub fn worked_names_not_hop_by_hop()
 
 /// The fields by which a cache decides (RFC 9111, sections 3 and 4), and others, named by Connection.
 pub fn worked_caching_fields_in_connection()
-    ensures age { lists_cache_field (connection_fields_naming (codes "Age")) ≡ true }
-    ensures cache_control { lists_cache_field (connection_fields_naming (codes "Cache-Control")) ≡ true }
-    ensures date { lists_cache_field (connection_fields_naming (codes "Date")) ≡ true }
-    ensures etag { lists_cache_field (connection_fields_naming (codes "ETag")) ≡ true }
-    ensures expires { lists_cache_field (connection_fields_naming (codes "Expires")) ≡ true }
-    ensures last_modified { lists_cache_field (connection_fields_naming (codes "Last-Modified")) ≡ true }
-    ensures set_cookie { lists_cache_field (connection_fields_naming (codes "Set-Cookie")) ≡ true }
-    ensures vary { lists_cache_field (connection_fields_naming (codes "Vary")) ≡ true }
-    ensures not_cookie { lists_cache_field (connection_fields_naming (codes "Cookie")) ≡ false }
-    ensures not_content_type { lists_cache_field (connection_fields_naming (codes "Content-Type")) ≡ false }
-    ensures not_content_length { lists_cache_field (connection_fields_naming (codes "Content-Length")) ≡ false }
-    ensures not_via { lists_cache_field (connection_fields_naming (codes "Via")) ≡ false }
-    ensures not_accept { lists_cache_field (connection_fields_naming (codes "Accept")) ≡ false }
-    ensures not_close { lists_cache_field (connection_fields_naming (codes "close")) ≡ false }
+    ensures age { connection_names_caching_field (connection_fields_naming (codes "Age")) ≡ true }
+    ensures cache_control { connection_names_caching_field (connection_fields_naming (codes "Cache-Control")) ≡ true }
+    ensures date { connection_names_caching_field (connection_fields_naming (codes "Date")) ≡ true }
+    ensures etag { connection_names_caching_field (connection_fields_naming (codes "ETag")) ≡ true }
+    ensures expires { connection_names_caching_field (connection_fields_naming (codes "Expires")) ≡ true }
+    ensures last_modified { connection_names_caching_field (connection_fields_naming (codes "Last-Modified")) ≡ true }
+    ensures set_cookie { connection_names_caching_field (connection_fields_naming (codes "Set-Cookie")) ≡ true }
+    ensures vary { connection_names_caching_field (connection_fields_naming (codes "Vary")) ≡ true }
+    ensures not_cookie { connection_names_caching_field (connection_fields_naming (codes "Cookie")) ≡ false }
+    ensures not_content_type { connection_names_caching_field (connection_fields_naming (codes "Content-Type")) ≡ false }
+    ensures not_content_length { connection_names_caching_field (connection_fields_naming (codes "Content-Length")) ≡ false }
+    ensures not_via { connection_names_caching_field (connection_fields_naming (codes "Via")) ≡ false }
+    ensures not_accept { connection_names_caching_field (connection_fields_naming (codes "Accept")) ≡ false }
+    ensures not_close { connection_names_caching_field (connection_fields_naming (codes "close")) ≡ false }
 {}
 
 /// Content, ranges and the preconditions that only the origin can judge (RFC 9110, sections 13.1.1,
@@ -216,30 +217,33 @@ pub fn worked_requests_past_the_cache()
     ensures range { asks_for_range (first_example_asked_with_line (codes "Range") (codes "bytes=0-1")) ≡ true }
     ensures if_range { asks_for_range (first_example_asked_with_line (codes "If-Range") (codes "\"e\"")) ≡ true }
     ensures no_range { asks_for_range (first_example_asked_with_line (codes "Accept-Ranges") (codes "bytes")) ≡ false }
-    ensures if_match { has_precondition (first_example_asked_with_line (codes "If-Match") (codes "*")) ≡ true }
-    ensures if_unmodified_since { has_precondition (first_example_asked_with_line (codes "If-Unmodified-Since") (codes "x")) ≡ true }
-    ensures if_none_match { has_precondition (first_example_asked_with_line (codes "If-None-Match") (codes "*")) ≡ false }
-    ensures if_modified_since { has_precondition (first_example_asked_with_line (codes "If-Modified-Since") (codes "x")) ≡ false }
-    ensures content { request_has_content (asked_of_content (Some (codes "x"))) ≡ true }
-    ensures empty { request_has_content (asked_of_content (Some [])) ≡ false }
-    ensures none { request_has_content (asked_of_content None) ≡ false }
+    ensures if_match { has_precondition_for_origin (first_example_asked_with_line (codes "If-Match") (codes "*")) ≡ true }
+    ensures if_unmodified_since { has_precondition_for_origin
+        (first_example_asked_with_line (codes "If-Unmodified-Since") (codes "x")) ≡ true }
+    ensures if_none_match { has_precondition_for_origin (first_example_asked_with_line (codes "If-None-Match") (codes "*")) ≡ false }
+    ensures if_modified_since { has_precondition_for_origin
+        (first_example_asked_with_line (codes "If-Modified-Since") (codes "x")) ≡ false }
+    ensures content { request_has_content (example_asked_with_content (Some (codes "x"))) ≡ true }
+    ensures empty { request_has_content (example_asked_with_content (Some [])) ≡ false }
+    ensures none { request_has_content (example_asked_with_content None) ≡ false }
 {}
 
 /// The proxy's conditions stand behind the client's lines, the tag first (RFC 9110, sections 13.1.2
 /// and 13.1.3); without them the client's own go forward, unless the proxy keeps them.
 pub fn worked_forwarded_conditions()
-    ensures both { forwarded_lines false asked_by_old_client (codes "edge") (Some conditions_by_tag_and_date)
+    ensures both { forwarded_lines false example_http_1_0_request (codes "edge") (Some conditions_by_tag_and_date)
         ≡ line (codes "Host") (codes "h:" ++ decimal 81) ∷ line (codes "Accept") (codes "*/*") ∷ line (codes "If-None-Match") (codes "\"v1\"")
         ∷ line (codes "If-Modified-Since") (codes "Thu, 01 Jan 1970 00:00:05 GMT") ∷ line (codes "Via") (codes "1.0 edge") ∷ [] }
-    ensures the_clients { forwarded_client_lines false asked_by_old_client.fields ≡ asked_by_old_client.fields }
-    ensures kept { forwarded_lines true asked_by_old_client (codes "edge") None
+    ensures the_clients { forwarded_client_lines false example_http_1_0_request.fields
+        ≡ example_http_1_0_request.fields }
+    ensures kept { forwarded_lines true example_http_1_0_request (codes "edge") None
         ≡ line (codes "Host") (codes "h:" ++ decimal 81) ∷ line (codes "Accept") (codes "*/*") ∷ line (codes "Via") (codes "1.0 edge") ∷ [] }
-    ensures kept_beside { forwarded_lines true asked_by_old_client (codes "edge") (Some conditions_by_tag_and_date)
-        ≡ forwarded_lines false asked_by_old_client (codes "edge") (Some conditions_by_tag_and_date) }
+    ensures kept_beside { forwarded_lines true example_http_1_0_request (codes "edge") (Some conditions_by_tag_and_date)
+        ≡ forwarded_lines false example_http_1_0_request (codes "edge") (Some conditions_by_tag_and_date) }
 {}
 
 /// A response is stripped, and dated once Connection's names are gone.
-#[tactic(auto, unfolding(httpdate::proofs::OnLiterals::httpdate_on_literals, crate::specs::Moments::part_holding_day))]
+#[tactic(auto, unfolding(httpdate::proofs::OnLiterals::httpdate_on_literals, crate::specs::Moments::part_and_day_within_it))]
 pub fn worked_response_stripped_then_dated()
     ensures stripped { (answered_of (response_with_fields (line (codes "Connection") (codes "X-A")
         ∷ line (codes "X-A") (codes "1") ∷ date_line (codes "Sun, 06 Nov 1994 08:49:37 GMT") ∷ [])) 101).fields

@@ -24,4 +24,4 @@ pub use dated_responses::{answered, date_text, dated};
 pub use forwarding::forward_request;
 pub use request_view::Asked;
 pub use response_view::Answered;
-pub use stripping::{lists_cache_field, strip};
+pub use stripping::{connection_names_caching_field, strip};

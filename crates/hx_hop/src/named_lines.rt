@@ -7,21 +7,22 @@ ghost use Rattle.std.specs.Prelude.{◌≡◌, ◌==◌, ◌||◌, not, ◌&&◌
 ghost use Rattle.std.specs.Prelude.{◌<◌, ℕ, Bool, true, false, List, if◌then◌else◌, slice_set};
 ghost use Rattle.std.specs.List.{list_any};
 ghost use Rattle.std.specs.BTreeMap.{get};
-ghost use Rattle.hx_fields.specs.FirstBytes.{begins_with_one_of, first_byte};
-ghost use Rattle.hx_fields.specs.Folded.{folded, folded_cmp};
+ghost use Rattle.hx_fields.specs.FirstBytes.{first_byte_is_one_of, first_byte};
+ghost use Rattle.hx_fields.specs.Folded.{folded, folded_names_cmp};
 ghost use Rattle.hx_fields.specs.NameBuckets.{bucket_of_name, falls_in_marked_bucket};
 ghost use Rattle.hx_fields.specs.FieldLines.{line_count_of_name, is_named};
 ghost use Rattle.hx_fields.specs.Names.{members_of_value};
-ghost use Rattle.hx_hop.specs.Stripping.{connection_names, is_hop_by_hop_name, stripped};
-ghost use Rattle.hx_hop.specs.NamedLines.{AllSoughtNamesAreUnmarked, NamesAreMarkedBy, is_present_and_marked};
-ghost use Rattle.hx_hop.specs.NamedLines.{is_name_sought_in_connection, is_present_and_unmarked};
+ghost use Rattle.hx_hop.specs.Stripping.{connection_has_option, is_hop_by_hop_name, stripped};
+ghost use Rattle.hx_hop.specs.NamedLines.{AllSoughtNamesAreUnmarked, NamesThatPassAreMarked, is_present_and_marked};
+ghost use Rattle.hx_hop.specs.NamedLines.{is_line_name_or_close, is_present_and_unmarked};
 ghost use Rattle.hx_hop.specs.NamedLines.{connection_has_many_members};
-ghost use Rattle.hx_hop.specs.NamedLines.{names_in_connection, names_in_value};
+ghost use Rattle.hx_hop.specs.NamedLines.{connection_has_folded_option, value_lists_folded_name};
 ghost use Rattle.hx_hop.specs.NamedLines.{IsPrefilterOfNames, PrefilterPassesUnmarkedNames};
 
 use crate::stripping::is_hop_by_hop_name;
 use hx_fields::{
-    Field, Fields, FirstBytes, FoldedName, NameBuckets, is_same_name, next_member_beginning_in,
+    Field, Fields, FirstBytes, FoldedName, NameBuckets, is_same_name,
+    next_member_with_first_byte_in,
 };
 use std::alloc::{AllocError, Global};
 use std::collections::BTreeMap;
@@ -49,19 +50,19 @@ fn has_long_line(lines: &[Field]) -> bool
 
 /// What names begin with, and with which of these bytes more than one of them does.
 #[derive(Drop)]
-pub(crate) struct MarkedFirstBytes {
+pub(crate) struct TakenAndSharedFirstBytes {
     taken: FirstBytes,
     shared: FirstBytes,
 }
 
-impl MarkedFirstBytes {
+impl TakenAndSharedFirstBytes {
     /// Adds that of a name.
     fn add(&mut self, name: &[u8])
         ensures taken { self.new.taken ≡ slice_set self.old.taken (first_byte name.now) true }
         ensures within { first_byte name.now < length self.old.taken }
-        ensures shared { self.new.shared ≡ (if begins_with_one_of self.old.taken name.now
+        ensures shared { self.new.shared ≡ (if first_byte_is_one_of self.old.taken name.now
             then slice_set self.old.shared (first_byte name.now) true else self.old.shared) }
-        ensures inside { begins_with_one_of self.old.taken name.now ≡ true
+        ensures inside { first_byte_is_one_of self.old.taken name.now ≡ true
             → first_byte name.now < length self.old.shared }
     {
         if self.taken.has_first_byte_of(name) {
@@ -72,7 +73,7 @@ impl MarkedFirstBytes {
 
     /// Takes out that of a name, where it isn't shared.
     fn remove(&mut self, name: &[u8])
-        ensures taken { self.new.taken ≡ (if begins_with_one_of self.old.shared name.now
+        ensures taken { self.new.taken ≡ (if first_byte_is_one_of self.old.shared name.now
             then self.old.taken else slice_set self.old.taken (first_byte name.now) false) }
         ensures shared { self.new.shared ≡ self.old.shared }
     {
@@ -84,12 +85,12 @@ impl MarkedFirstBytes {
 
 /// The buckets into which names fall, and into which of them more than one does.
 #[derive(Drop)]
-pub(crate) struct MarkedBuckets {
+pub(crate) struct NameBucketsAndCollisions {
     taken: NameBuckets,
     shared: NameBuckets,
 }
 
-impl MarkedBuckets {
+impl NameBucketsAndCollisions {
     /// Adds that of a name.
     fn add(&mut self, name: &[u8])
         ensures taken { self.new.taken ≡ slice_set self.old.taken (bucket_of_name name.now) true }
@@ -119,8 +120,8 @@ impl MarkedBuckets {
 /// What a text has to show to be one of some names.
 #[derive(Drop)]
 pub(crate) struct NamePrefilter {
-    firsts: MarkedFirstBytes,
-    buckets: MarkedBuckets,
+    firsts: TakenAndSharedFirstBytes,
+    buckets: NameBucketsAndCollisions,
 }
 
 impl NamePrefilter {
@@ -129,11 +130,11 @@ impl NamePrefilter {
         ensures { IsPrefilterOfNames (λ q. false) result }
     {
         NamePrefilter {
-            firsts: MarkedFirstBytes {
+            firsts: TakenAndSharedFirstBytes {
                 taken: FirstBytes::none(),
                 shared: FirstBytes::none(),
             },
-            buckets: MarkedBuckets {
+            buckets: NameBucketsAndCollisions {
                 taken: NameBuckets::none(),
                 shared: NameBuckets::none(),
             },
@@ -161,7 +162,7 @@ impl NamePrefilter {
 
 /// The lines that go on, and whether a member of Connection is `close`.
 #[derive(Drop)]
-pub(crate) struct Stripped {
+pub(crate) struct StrippedFields {
     pub(crate) fields: Fields,
     pub(crate) closes: bool,
 }
@@ -170,15 +171,15 @@ pub(crate) struct Stripped {
 pub(crate) fn strip_with_many_members(
     alloc: Global,
     fields: &Fields,
-) -> Result<Stripped, AllocError>
+) -> Result<StrippedFields, AllocError>
     ensures lines { IfOk result (λ kept. kept.fields ≡ stripped fields.now) }
-    ensures closes { IfOk result (λ kept. kept.closes ≡ connection_names fields.now (codes "close")) }
+    ensures closes { IfOk result (λ kept. kept.closes ≡ connection_has_option fields.now (codes "close")) }
 {
     let mut signs = NamePrefilter::none();
     let mut names = names_looked_for(alloc, &mut signs, fields)?;
     mark_members(alloc, &mut names, &mut signs, fields)?;
     let closes = is_present_and_marked(&names, &FoldedName::of(alloc, b"close")?);
-    Ok(Stripped {
+    Ok(StrippedFields {
         fields: keep_unmarked(alloc, &names, fields)?,
         closes,
     })
@@ -192,7 +193,7 @@ fn names_looked_for(
 ) -> Result<BTreeMap<FoldedName, bool>, AllocError>
     requires { IsPrefilterOfNames (λ q. false) signs.old }
     ensures names { IfOk result (λ names. AllSoughtNamesAreUnmarked fields.now names) }
-    ensures signs { OnOk result (IsPrefilterOfNames (is_name_sought_in_connection fields.now) signs.new) }
+    ensures signs { OnOk result (IsPrefilterOfNames (is_line_name_or_close fields.now) signs.new) }
 {
     let mut names = BTreeMap::new(alloc);
     names.insert(FoldedName::of(alloc, b"close")?, false)?;
@@ -215,7 +216,7 @@ fn mark_members(
     fields: &Fields,
 ) -> Result<(), AllocError>
     requires { PrefilterPassesUnmarkedNames signs.old names.old }
-    ensures { OnOk result (NamesAreMarkedBy (names_in_connection fields.now) names.old names.new) }
+    ensures { OnOk result (NamesThatPassAreMarked (connection_has_folded_option fields.now) names.old names.new) }
 {
     let mut name = FoldedName::new(alloc);
     for line in fields.as_slice() {
@@ -235,11 +236,11 @@ fn mark_value(
     value: &[u8],
 ) -> Result<(), AllocError>
     requires { PrefilterPassesUnmarkedNames signs.old names.old }
-    ensures marked { OnOk result (NamesAreMarkedBy (names_in_value value.now) names.old names.new) }
+    ensures marked { OnOk result (NamesThatPassAreMarked (value_lists_folded_name value.now) names.old names.new) }
     ensures signs { OnOk result (PrefilterPassesUnmarkedNames signs.new names.new) }
 {
     let mut rest = value;
-    while let Some((member, behind)) = next_member_beginning_in(rest, &signs.firsts.taken) {
+    while let Some((member, behind)) = next_member_with_first_byte_in(rest, &signs.firsts.taken) {
         if signs.buckets.taken.has(member) {
             mark_member(alloc, names, signs, name, member)?;
         }
@@ -257,7 +258,7 @@ fn mark_member(
     member: &[u8],
 ) -> Result<(), AllocError>
     requires { PrefilterPassesUnmarkedNames signs.old names.old }
-    ensures marked { OnOk result (NamesAreMarkedBy (bytes_eq (folded member.now)) names.old names.new) }
+    ensures marked { OnOk result (NamesThatPassAreMarked (bytes_eq (folded member.now)) names.old names.new) }
     ensures signs { OnOk result (PrefilterPassesUnmarkedNames signs.new names.new) }
 {
     name.set(member)?;
@@ -270,7 +271,7 @@ fn mark_member(
 
 /// Whether a name is here and not marked.
 fn is_present_and_unmarked(names: &BTreeMap<FoldedName, bool>, name: &FoldedName) -> bool
-    ensures { result ≡ is_present_and_unmarked (get folded_cmp names.now name.now) }
+    ensures { result ≡ is_present_and_unmarked (get folded_names_cmp names.now name.now) }
 {
     match names.get(name) {
         Some(is_marked) => !*is_marked,
@@ -280,7 +281,7 @@ fn is_present_and_unmarked(names: &BTreeMap<FoldedName, bool>, name: &FoldedName
 
 /// Whether a name is here and marked.
 fn is_present_and_marked(names: &BTreeMap<FoldedName, bool>, name: &FoldedName) -> bool
-    ensures { result ≡ is_present_and_marked (get folded_cmp names.now name.now) }
+    ensures { result ≡ is_present_and_marked (get folded_names_cmp names.now name.now) }
 {
     match names.get(name) {
         Some(is_marked) => *is_marked,
@@ -296,7 +297,7 @@ fn keep_unmarked(
 ) -> Result<Fields, AllocError>
     ensures { IfOk result (λ kept. kept
         ≡ filter (λ line. not (is_hop_by_hop_name line.name || is_present_and_marked
-        (get folded_cmp names.now (folded line.name))))
+        (get folded_names_cmp names.now (folded line.name))))
         fields.now) }
 {
     let mut kept = Fields::with_capacity(alloc, fields.len())?;
@@ -313,7 +314,7 @@ fn keep_unmarked(
 /// Whether a line of this folded name goes on.
 fn goes_on(names: &BTreeMap<FoldedName, bool>, name: &FoldedName, line: &Field) -> bool
     ensures { result
-        ≡ not (is_hop_by_hop_name line.now.name || is_present_and_marked (get folded_cmp names.now name.now)) }
+        ≡ not (is_hop_by_hop_name line.now.name || is_present_and_marked (get folded_names_cmp names.now name.now)) }
 {
     !is_hop_by_hop_name(line.name()) && !is_present_and_marked(names, name)
 }

@@ -1,7 +1,7 @@
 //! A request as every later rule sees it.
 ghost use Rattle.std.specs.Prelude.{◌≡◌, IfOk, codes};
 ghost use Rattle.std.specs.Option.{option_copied};
-ghost use Rattle.hx_hop.specs.Bypass.{request_has_content, asks_for_range, has_precondition};
+ghost use Rattle.hx_hop.specs.Bypass.{request_has_content, asks_for_range, has_precondition_for_origin};
 
 use http::Method;
 use hx_fields::{Bytes, Fields};
@@ -85,8 +85,8 @@ impl Asked {
     }
 
     /// Whether a precondition stands that only the origin can judge (RFC 9110, sections 13.1.1 and 13.1.4).
-    pub fn has_precondition(&self) -> bool
-        ensures { result ≡ has_precondition self.now }
+    pub fn has_precondition_for_origin(&self) -> bool
+        ensures { result ≡ has_precondition_for_origin self.now }
     {
         self.fields.has(b"If-Match") || self.fields.has(b"If-Unmodified-Since")
     }

@@ -4,7 +4,8 @@
 ghost use Rattle.std.specs.Prelude.{◌≡◌, codes, IfOk};
 ghost use Rattle.std.specs.List.{list_any};
 ghost use Rattle.hx_fields.specs.Names.{is_same_name, members_of_value};
-ghost use Rattle.hx_hop.specs.Stripping.{caching_field_names, name_is_among, is_hop_by_hop_name, lists_cache_field};
+ghost use Rattle.hx_hop.specs.Stripping.{caching_field_names, name_is_among, is_hop_by_hop_name};
+ghost use Rattle.hx_hop.specs.Stripping.{connection_names_caching_field};
 ghost use Rattle.hx_hop.specs.Stripping.{stripped};
 
 use crate::named_lines::{connection_has_many_members, strip_with_many_members};
@@ -96,8 +97,8 @@ fn value_lists_cache_field(value: &[u8]) -> bool
 
 /// Whether a member of Connection names a field by which a cache decides. It is asked of fields before they
 /// are stripped, and takes no memory.
-pub fn lists_cache_field(fields: &Fields) -> bool
-    ensures { result ≡ lists_cache_field fields.now }
+pub fn connection_names_caching_field(fields: &Fields) -> bool
+    ensures { result ≡ connection_names_caching_field fields.now }
 {
     if fields.count(b"Connection") == 0 {
         return false;

@@ -9,7 +9,7 @@ use Rattle.httpdate.specs.Calendar.{days_from_civil, days_in_month, is_leap_year
 use Rattle.httpdate.specs.Text.{day_name, four_digits, imf_fixdate, month_name, time_of_day, two_digits}
 use Rattle.httpdate.specs.Valid.{IsValid}
 use Rattle.httpdate.specs.declared.parts.Parts.{Parts}
-use Rattle.hx_fields.specs.declared.limits.TheConstants.{END_OF_TIME}
+use Rattle.hx_fields.specs.declared.limits.TheConstants.{START_OF_YEAR_10000}
 use Rattle.hx_hop.specs.Moments.{date_parts_of, date_text_of}
 use Rattle.hx_hop.proofs.Moments.{civil_of_is}
 use Rattle.hx_hop_laws.specs.OneMessage.{IsFieldValue}
@@ -137,7 +137,7 @@ days_few y m = by_tests (m == 2) (is_leap_year y) ((m == 4) || (m == 6) || (m ==
     by_tests false u true = omega arith
     by_tests false u false = omega arith
 
-pub date_value : (now : ℕ) → now < END_OF_TIME → IsFieldValue (date_text_of now)
+pub date_value : (now : ℕ) → now < START_OF_YEAR_10000 → IsFieldValue (date_text_of now)
 date_value now early =
     let civil = civil_of_is now early in
     text_value (date_parts_of now) civil.0 _ (days_few (date_parts_of now).year (date_parts_of now).mon) civil.0.0.2.1

@@ -13,7 +13,7 @@ use Rattle.http_uri.specs.Uri.{uri_authority, uri_data, uri_scheme}
 use Rattle.hx_target.specs.declared.target_fault.TargetFault.{TargetFault}
 use Rattle.hx_target.specs.declared.target_fault.TargetFault.TheVariants.{Form, Scheme, Host, Port, Userinfo, Escape, DotSegment, TooLong}
 use Rattle.hx_target.specs.declared.targets.Target.{Target}
-use Rattle.hx_target.specs.Hosts.{host_part, port_if_valid, is_address, is_address_byte, is_host, is_name, is_name_byte, lowercase, port_of_text, number_of_few_digits}
+use Rattle.hx_target.specs.Hosts.{host_part, port_if_valid, is_bracketed_address, is_address_byte, is_host, is_name, is_name_byte, lowercase, port_of_text, number_of_few_digits}
 use Rattle.hx_target.specs.Judgement.{TargetIsJudged, TargetParts, fault_or_target, first_target_fault, is_forbidden_target_byte, is_malformed, judged_of, host_and_port_text, path_query_of, target_parts_of, target_fault_applies, target_of_parts}
 use Rattle.hx_target.proofs.Judgements.{none_applies}
 
@@ -92,7 +92,7 @@ pass_visible test visible (b ∷ text) h =
 name_visible : (text : List ℕ) → is_name text ≡ true → All IsVisible text
 name_visible text h = pass_visible is_name_byte name_byte text (both _ _ h).1
 
-address_visible : (text : List ℕ) → slice_index text 0 ≡ left_bracket → is_address text ≡ true → All IsVisible text
+address_visible : (text : List ℕ) → slice_index text 0 ≡ left_bracket → is_bracketed_address text ≡ true → All IsVisible text
 address_visible text first h =
     let parts = both _ _ h in
     let before = both _ _ parts.0 in
@@ -118,7 +118,7 @@ host_visible : (text : List ℕ) → is_host text ≡ true → All IsVisible tex
 unfolding is_host
 host_visible text h = by_test (slice_index text 0 == left_bracket) refl h
   where
-    by_test : (t : Bool) → (slice_index text 0 == left_bracket) ≡ t → cond t (is_address text) (is_name text) ≡ true → All IsVisible text
+    by_test : (t : Bool) → (slice_index text 0 == left_bracket) ≡ t → cond t (is_bracketed_address text) (is_name text) ≡ true → All IsVisible text
     by_test true is e = address_visible text (eqb-true (slice_index text 0) 91 is) e
     by_test false is e = name_visible text e
 

@@ -6,7 +6,7 @@ use Rattle.std.proofs.lemmas.Bool.{leb-true, or_from}
 use Rattle.std.proofs.lemmas.List.Elements.{All-nil, All-cons, All-append, All-filter}
 use Rattle.std.proofs.lemmas.List.Folds.{list_any-append}
 use Rattle.httparse.specs.Grammar.{is_token_byte}
-use Rattle.hx_fields.specs.declared.limits.TheConstants.{END_OF_TIME}
+use Rattle.hx_fields.specs.declared.limits.TheConstants.{START_OF_YEAR_10000}
 use Rattle.hx_fields.specs.Line.{Field}
 use Rattle.hx_fields.specs.FieldLines.{has_field, is_named, without_named}
 use Rattle.hx_framing.specs.declared.messages.Response.{Response}
@@ -86,7 +86,7 @@ module _ (fields : List Field) (now : ℕ) where
   date : Field
   date = line (codes "Date") (date_text_of now)
 
-  pub dated_fit : now < END_OF_TIME → All FieldIsWritable fields → All FieldIsWritable (fields_with_valid_date fields now)
+  pub dated_fit : now < START_OF_YEAR_10000 → All FieldIsWritable fields → All FieldIsWritable (fields_with_valid_date fields now)
   dated_fit early all = by_test (has_one_date fields)
     where
       by_test : (t : Bool) → All FieldIsWritable (cond t fields (without_named fields (codes "Date") ++ line (codes "Date") (date_text_of now) ∷ []))

@@ -2,7 +2,7 @@
 -- origin sends, what a client gets for it is one response, which ends where the proxy ends it.
 use Rattle.std.specs.Prelude.{◌≡◌, ℕ, ◌<◌, ◌≤◌, ◌^◌, ◌==◌, ◌||◌, ◌++◌, if◌then◌else◌, Bool, false, List, [], length}
 use Rattle.std.specs.Prelude.{codes, All, None, Some}
-use Rattle.hx_fields.specs.declared.limits.TheConstants.{END_OF_TIME}
+use Rattle.hx_fields.specs.declared.limits.TheConstants.{START_OF_YEAR_10000}
 use Rattle.hx_fields.specs.Line.{Field}
 use Rattle.hx_fields.specs.FieldLines.{has_field}
 use Rattle.hx_framing.specs.declared.messages.Response.{Response}
@@ -44,7 +44,7 @@ pub record ResponseIsWithinReaderLimits (most : ℕ) (sent : SentResponse) : Typ
 abbrev pub PassedOnResponseReadsBackAsOne : Type 0
 PassedOnResponseReadsBackAsOne =
     (max_body most now : ℕ) (to_head ended close : Bool) (bytes rest : List ℕ) (r : Response) (added : List Field)
-    → ReadsAs max_body to_head ended bytes (Spelled r rest) → now < END_OF_TIME → AddedLinesAreWritable added
+    → ReadsAs max_body to_head ended bytes (Spelled r rest) → now < START_OF_YEAR_10000 → AddedLinesAreWritable added
     → let sent = response_passed_on to_head r now added close in
     most < 2 ^ 64 → ResponseIsWithinReaderLimits most sent
     → (over : Bool) (behind : List ℕ)

@@ -13,7 +13,7 @@ pub fn plain_policy_changes_no_rule()
     ensures most { (caches : Bool) → (plain caches).lifetime_most ≡ None }
     ensures on_error { (caches : Bool) → (plain caches).stale_if_error ≡ None }
     ensures cookies { (caches : Bool) → (plain caches).stores_cookies ≡ true }
-    ensures cookies_of_all { (caches : Bool) → (plain caches).removes_cookies ≡ false }
+    ensures cookies_of_all { (caches : Bool) → (plain caches).removes_set_cookie ≡ false }
     ensures responses_with_cookies { (caches : Bool) → (plain caches).gives_to_set_cookie ≡ true }
     ensures requests_with_cookies { (caches : Bool) → (plain caches).gives_to_cookies ≡ true }
     ensures errors { (caches : Bool) → (plain caches).stores_errors ≡ true }
@@ -41,7 +41,7 @@ pub fn a_lifetime_is_given_to_heuristic_statuses_alone()
 
 /// Where errors have the lifetime of all others, as in the versions of the table before the fourth, every heuristically
 /// cacheable status is given that one.
-pub fn equal_error_lifetime_is_given_to_all_statuses()
+pub fn equal_lifetimes_reach_all_heuristic_statuses()
     ensures { (words : Words) (status : ℕ) → words.error_lifetime ≡ words.lifetime
         → lifetime_given_by_policy words status ≡ (if is_heuristic_status status then words.lifetime else None) }
 {}

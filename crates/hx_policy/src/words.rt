@@ -29,7 +29,7 @@ pub struct Policy {
     pub stores_cookies: bool,
     /// A response is stored without its Set-Cookie lines, and none is sent out of the store: each stays with the one
     /// whom it was set for (RFC 9111, section 7.3).
-    pub removes_cookies: bool,
+    pub removes_set_cookie: bool,
     /// The lifetimes of the line are also given to a response with Set-Cookie. Else such a response that has neither a
     /// lifetime of its own nor public isn't stored where the line would give it one.
     pub gives_to_set_cookie: bool,
@@ -78,7 +78,7 @@ impl Policy {
             stale_if_error: None,
             stale_while_revalidate: None,
             stores_cookies: true,
-            removes_cookies: false,
+            removes_set_cookie: false,
             gives_to_set_cookie: true,
             gives_to_cookies: true,
             stores_errors: true,

@@ -9,12 +9,12 @@ use Rattle.hx_vary.specs.Vary.{vary_matches}
 use Rattle.hx_hop.specs.declared.request_view.Asked.{Asked}
 use Rattle.hx_store.specs.Stored.{Stored}
 use Rattle.hx_store.specs.Serials.{SerialsAreDistinct}
-use Rattle.hx_store.specs.Shelf.{serials, find_entry}
+use Rattle.hx_store.specs.Shelf.{serials, find_entry_of_serial}
 use Rattle.hx_reuse.specs.Chosen.{nominates, is_more_recent, entries_of_key, entries_that_match, most_preferred_response, chosen_of}
 use Rattle.hx_reuse.specs.ChosenAndNamed.{ResponseMatchesRequest, ResponseIsChosen}
 use Rattle.hx_fields.proofs.FirstThat.{IsMember}
 use Rattle.hx_reuse.proofs.Members.{distinct_entries}
-use Rattle.hx_reuse.proofs.Preferred.{fold_preferred, fold_some, same_serial, above_alike, above_keeps, filter_member, member_filter, find_member, member_find, find_entry-find, nat_eq_true, nat_eq_same}
+use Rattle.hx_reuse.proofs.Preferred.{fold_preferred, fold_some, same_serial, above_alike, above_keeps, filter_member, member_filter, find_member, member_find, find_entry_of_serial-find, nat_eq_true, nat_eq_same}
 
 -- the members are what the list contains
 contains_member : (xs : List Stored) (e : Stored) → IsMember e xs → Contains xs e
@@ -38,12 +38,12 @@ member_contained (x ∷ xs) e c = split (Contains-append_cases (x ∷ []) xs e c
     split (inr more) rest = inr (rest more)
 
 -- the serial of a member finds it
-pub found_by_serial : (held : List Stored) → SerialsAreDistinct (serials held) → (e : Stored) → Contains held e → find_entry e.serial held ≡ Some e
+pub found_by_serial : (held : List Stored) → SerialsAreDistinct (serials held) → (e : Stored) → Contains held e → find_entry_of_serial e.serial held ≡ Some e
 found_by_serial held distinct e c =
     let in_held = member_contained held e c in
     let r = member_find (λ x. nat_eq x.serial e.serial) held e in_held (nat_eq_same e.serial) in
     let f = find_member (λ x. nat_eq x.serial e.serial) held r.0 r.1 in
-    find_entry-find e.serial held ∙ (r.1 ∙ ap Some (distinct_entries held distinct r.0 e f.0 in_held (nat_eq_true r.0.serial e.serial f.1)))
+    find_entry_of_serial-find e.serial held ∙ (r.1 ∙ ap Some (distinct_entries held distinct r.0 e f.0 in_held (nat_eq_true r.0.serial e.serial f.1)))
 
 by_numbers : (e f : Stored) → is_more_recent e f ≡ false → (e.times.date ≤ f.times.date) × (e.times.date ≡ f.times.date → e.serial ≤ f.serial)
 by_numbers e f h = (grind (arith, nat_tests), λ same. grind (arith, nat_tests))

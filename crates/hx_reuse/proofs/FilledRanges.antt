@@ -8,7 +8,7 @@ use Rattle.hx_fields.specs.Line.{Field}
 use Rattle.hx_fields.specs.FieldLines.{has_field, is_named, values_of, without_named}
 use Rattle.hx_fields.specs.Names.{is_same_name}
 use Rattle.hx_hop.specs.declared.request_view.Asked.{Asked}
-use Rattle.hx_hop.specs.Bypass.{request_has_content, asks_for_range, has_precondition}
+use Rattle.hx_hop.specs.Bypass.{request_has_content, asks_for_range, has_precondition_for_origin}
 use Rattle.hx_hop.proofs.Lines.{filter_keeps, list_any_fewer, list_any_none_left, not_true, same_lower}
 use Rattle.hx_reuse.specs.FilledRanges.{fetches_whole_for_range, request_without_range, RangeOfACacheableGetFetchesWhole, OnlyRangeOfACacheableGetFetchesWhole, DefaultPolicyFetchesNoWholeForRange, WholeIsFetchedWithoutRange, FieldsButRangeAreForwardedUnchanged, FilledRangeConditionsAreAsForTheWhole}
 
@@ -27,7 +27,7 @@ all_hold true true true true false true e = cc
 
 pub only_these : OnlyRangeOfACacheableGetFetchesWhole
 only_these policy asked e =
-    let (fills, caches, get, asks, content, precondition) = all_hold policy.fills_ranges policy.caches (bytes_eq asked.method (codes "GET")) (asks_for_range asked) (request_has_content asked) (has_precondition asked) e in
+    let (fills, caches, get, asks, content, precondition) = all_hold policy.fills_ranges policy.caches (bytes_eq asked.method (codes "GET")) (asks_for_range asked) (request_has_content asked) (has_precondition_for_origin asked) e in
     let method : asked.method ≡ codes "GET" = (bytes_eq-Decides asked.method (codes "GET")).0 get in
     (fills, caches, method, asks, record { method_allows = inl method; no_content = content; no_range = (λ forwarded. cc); no_precondition = precondition })
 
@@ -85,7 +85,7 @@ has_stays name fields no_range no_if_range =
     ∙ ap (list_any (is_named name)) (lines_stay name fields no_range no_if_range)
     ∙ any_by_filter (is_named name) fields
 
-pub precondition_stays : (asked : Asked) → has_precondition (request_without_range asked) ≡ has_precondition asked
+pub precondition_stays : (asked : Asked) → has_precondition_for_origin (request_without_range asked) ≡ has_precondition_for_origin asked
 precondition_stays asked = rw (has_stays (codes "If-Match") asked.fields refl refl, has_stays (codes "If-Unmodified-Since") asked.fields refl refl) refl
 
 pub asks_no_more : (asked : Asked) → asks_for_range (request_without_range asked) ≡ false
@@ -93,5 +93,5 @@ asks_no_more asked = rw (no_range asked.fields, no_if_range asked.fields) refl
 
 pub as_the_whole : FilledRangeConditionsAreAsForTheWhole
 as_the_whole policy asked fills =
-    let (is, caches, get, asks, content, precondition) = all_hold policy.fills_ranges policy.caches (bytes_eq asked.method (codes "GET")) (asks_for_range asked) (request_has_content asked) (has_precondition asked) fills in
+    let (is, caches, get, asks, content, precondition) = all_hold policy.fills_ranges policy.caches (bytes_eq asked.method (codes "GET")) (asks_for_range asked) (request_has_content asked) (has_precondition_for_origin asked) fills in
     rw (is, precondition_stays asked) refl

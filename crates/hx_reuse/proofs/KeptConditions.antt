@@ -2,7 +2,7 @@
 use Rattle.std.proofs.Common.{◌≡◌, inl, Bool, true, false, codes, refl}
 use Rattle.std.specs.Prelude.{not, ◌&&◌, ◌||◌, bytes_eq}
 use Rattle.std.proofs.lemmas.Slice.Eq.{bytes_eq-Decides}
-use Rattle.hx_hop.specs.Bypass.{request_has_content, asks_for_range, has_precondition}
+use Rattle.hx_hop.specs.Bypass.{request_has_content, asks_for_range, has_precondition_for_origin}
 use Rattle.hx_reuse.specs.Conditions.{ConditionsOfACacheableGetAreWithheld, OnlyConditionsOfACacheableGetAreWithheld, DefaultPolicyWithholdsNoConditions}
 
 not_both : (fills asks : Bool) → (not fills ≡ true → asks ≡ false) → not fills && asks ≡ false
@@ -30,7 +30,7 @@ all_hold false true true false false true e = cc
 
 pub only_these : OnlyConditionsOfACacheableGetAreWithheld
 only_these policy asked e =
-    let (forwards, caches, get, content, range, precondition) = all_hold policy.forwards_conditions policy.caches (bytes_eq asked.method (codes "GET")) (request_has_content asked) (not policy.fills_ranges && asks_for_range asked) (has_precondition asked) e in
+    let (forwards, caches, get, content, range, precondition) = all_hold policy.forwards_conditions policy.caches (bytes_eq asked.method (codes "GET")) (request_has_content asked) (not policy.fills_ranges && asks_for_range asked) (has_precondition_for_origin asked) e in
     let method : asked.method ≡ codes "GET" = (bytes_eq-Decides asked.method (codes "GET")).0 get in
     (forwards, caches, method, record { method_allows = inl method; no_content = content; no_range = range_stays policy.fills_ranges (asks_for_range asked) range; no_precondition = precondition })
 

@@ -4,7 +4,7 @@ use Rattle.std.proofs.lemmas.Bool.Decides.{nat_tests}
 use Rattle.std.specs.Prelude.{not, ◌&&◌, ◌||◌, ◌==◌, nat_lt, nat_le, bytes_eq, codes, length, find, filter, is_none, Option, Some, None, option_map}
 use Rattle.hx_fields.specs.Line.{Field}
 use Rattle.hx_directives.specs.Occurrences.{occurrences_of}
-use Rattle.hx_directives.specs.Answers.{is_same_directive, directive_occurs, seconds_of_directive, first_valid, max_stale}
+use Rattle.hx_directives.specs.Answers.{is_same_directive, directive_occurs, seconds_of_directive, first_valid_seconds, max_stale}
 use Rattle.hx_directives.specs.declared.names.Directive.{Directive}
 use Rattle.hx_directives.specs.declared.names.Directive.TheVariants.{StaleIfError}
 use Rattle.hx_directives.specs.declared.occurrences.Occurrence.{Occurrence}
@@ -13,7 +13,7 @@ use Rattle.hx_target.specs.declared.keys.Key.{Key}
 use Rattle.hx_target.specs.Keys.{same_key}
 use Rattle.hx_age.specs.declared.lifetimes.Lifetime.{Lifetime}
 use Rattle.hx_age.specs.Lifetime.{lifetime_of}
-use Rattle.hx_age.specs.Age.{age_of, lifetime_ended_by_purge}
+use Rattle.hx_age.specs.Age.{age_of, lifetime_shortened_by_purge}
 use Rattle.hx_hop.specs.declared.request_view.Asked.{Asked}
 use Rattle.hx_store.specs.Stored.{Stored}
 use Rattle.hx_policy.specs.declared.words.Policy.{Policy}
@@ -24,11 +24,11 @@ use Rattle.hx_reuse.specs.declared.rule.ErrorRule.{ErrorRule}
 use Rattle.hx_reuse.specs.declared.rule.ErrorRule.TheVariants as on_error
 use Rattle.hx_reuse.specs.Chosen.{chosen_of}
 use Rattle.hx_reuse.specs.Lifetimes.{lifetime_capped_at, lifetime_or_given_by_operator, lifetime_of_stored_response, lifetime_under_policy}
-use Rattle.hx_reuse.specs.Rules.{ReuseSituation, situation_with, situation_of_request, is_fresh_situation, heeded_request_has_no_cache, is_above_max_age_limit, is_below_min_fresh_of_request, heeded_request_has_min_fresh, max_stale_is_present, is_past_max_stale, is_some_and, reuse_rule_condition, reuse_rule_applies, reuse_rules, reuse_rule_of, decision_by_rule, decision_of}
-use Rattle.hx_reuse.specs.ErrorRules.{seconds_stated_once, stale_limit_of_response, stale_limit_of_request, stale_limit_of_operator, is_stale_beyond_limit, error_rule_condition, error_rules, situation_of_stored_response, error_rule_on, permission_from_error_rule, permission_on_error}
+use Rattle.hx_reuse.specs.Rules.{ReuseSituation, situation_with, situation_of_request, situation_is_fresh, heeded_request_has_no_cache, is_above_max_age_limit, is_below_min_fresh_of_request, heeded_request_has_min_fresh, max_stale_is_present, is_past_max_stale, is_some_and, reuse_rule_condition, reuse_rule_applies, reuse_rules, least_reuse_rule_of, decision_by_rule, decision_of}
+use Rattle.hx_reuse.specs.ErrorRules.{seconds_stated_once, stale_if_error_limit_of_response, request_stale_if_error_limit, operator_stale_if_error_limit, is_stale_beyond_limit, error_rule_condition, error_rules, situation_of_stored_response, error_rule_against, permission_from_error_rule, permission_on_error}
 use Rattle.hx_reuse.specs.OnError.{staleness_at}
-use Rattle.hx_reuse.specs.PlainLines.{standard_rule_condition, standard_condition_on_chosen, standard_rule_applies, plain_decision_of, standard_error_rule_condition, plain_permission_on_error}
-use Rattle.hx_reuse.specs.LineWordsInReuse.{is_rule_on_request_directives, RequestsDifferOnlyInIgnoredDirectives, HasNoStaleIfError, policy_without_stale_if_error}
+use Rattle.hx_reuse.specs.PlainLines.{standard_rule_condition, standard_condition_on_chosen, standard_rule_applies, plain_decision_of, standard_error_rule_condition, standard_permission_on_error}
+use Rattle.hx_reuse.specs.LineWordsInReuse.{is_rule_on_request_directives, RequestsDifferOnlyInIgnoredDirectives, NeitherHasStaleIfError, policy_without_stale_if_error}
 use Rattle.std.proofs.Math.Nat.{min-le_left, min-eq_left, min-eq_right}
 use Rattle.hx_fields.proofs.JoinedTests.{never, first_absent, last_absent, neither, or_right, has_value, is_below, is_not_below}
 use Rattle.hx_reuse.proofs.OnErrorLemmas.{is_given}
@@ -160,7 +160,7 @@ last_false : (a b : Bool) → b ≡ false → a || b ≡ a
 last_false true b h = refl
 last_false false b h = h
 
-no_limit : (caches : Bool) (lifetime : Lifetime) (age : ℕ) (response request : List Occurrence) → stale_limit_of_operator (situation_with (plain caches) lifetime age response request) ≡ None
+no_limit : (caches : Bool) (lifetime : Lifetime) (age : ℕ) (response request : List Occurrence) → operator_stale_if_error_limit (situation_with (plain caches) lifetime age response request) ≡ None
 no_limit caches lifetime age response request = same_none (directive_occurs response StaleIfError || directive_occurs request StaleIfError)
 
 pub plain_error_rule : (caches : Bool) (which : ErrorRule) (lifetime : Lifetime) (age : ℕ) (response request : List Occurrence) →
@@ -171,15 +171,15 @@ plain_error_rule caches on_error.NoLifetime lifetime age response request = refl
 plain_error_rule caches on_error.RequestNoCache lifetime age response request = refl
 plain_error_rule caches on_error.NoDirective lifetime age response request =
     let s : ReuseSituation = situation_with (plain caches) lifetime age response request in
-    last_none (is_none (stale_limit_of_response s) && is_none (stale_limit_of_request s)) (is_none (stale_limit_of_operator s)) (ap is_none (no_limit caches lifetime age response request))
+    last_none (is_none (stale_if_error_limit_of_response s) && is_none (request_stale_if_error_limit s)) (is_none (operator_stale_if_error_limit s)) (ap is_none (no_limit caches lifetime age response request))
 plain_error_rule caches on_error.TooStale lifetime age response request =
     let s : ReuseSituation = situation_with (plain caches) lifetime age response request in
-    last_false (is_stale_beyond_limit s (stale_limit_of_response s) || is_stale_beyond_limit s (stale_limit_of_request s)) (is_stale_beyond_limit s (stale_limit_of_operator s)) (ap (is_stale_beyond_limit s) (no_limit caches lifetime age response request))
+    last_false (is_stale_beyond_limit s (stale_if_error_limit_of_response s) || is_stale_beyond_limit s (request_stale_if_error_limit s)) (is_stale_beyond_limit s (operator_stale_if_error_limit s)) (ap (is_stale_beyond_limit s) (no_limit caches lifetime age response request))
 
 plain_chosen : (caches : Bool) (which : ReuseRule) (e : Stored) (asked : Asked) (now : ℕ) → reuse_rule_condition which (situation_of_request (plain caches) e asked now) ≡ standard_condition_on_chosen which e asked now
 plain_chosen caches which e asked now =
-    ap (λ (l : Lifetime). reuse_rule_condition which (situation_with (plain caches) (lifetime_ended_by_purge e.times l) (age_of e.times now) (occurrences_of e.fields) (occurrences_of asked.fields))) (plain_lifetime caches e.status e.fields)
-    ∙ plain_rule caches which (lifetime_ended_by_purge e.times (lifetime_of e.fields)) (age_of e.times now) (occurrences_of e.fields) (occurrences_of asked.fields)
+    ap (λ (l : Lifetime). reuse_rule_condition which (situation_with (plain caches) (lifetime_shortened_by_purge e.times l) (age_of e.times now) (occurrences_of e.fields) (occurrences_of asked.fields))) (plain_lifetime caches e.status e.fields)
+    ∙ plain_rule caches which (lifetime_shortened_by_purge e.times (lifetime_of e.fields)) (age_of e.times now) (occurrences_of e.fields) (occurrences_of asked.fields)
 
 module _ (caches : Bool) (held : List Stored) (asked : Asked) (now : ℕ) where
   plain_apply : (which : ReuseRule) → reuse_rule_applies which (plain caches) held asked now ≡ standard_rule_applies which caches held asked now
@@ -195,17 +195,17 @@ module _ (caches : Bool) (held : List Stored) (asked : Asked) (now : ℕ) where
       (λ e. plain_chosen caches which e asked now)
 
   pub plain_decides : decision_of (plain caches) held asked now ≡ plain_decision_of caches held asked now
-  unfolding decision_of reuse_rule_of plain_decision_of
+  unfolding decision_of least_reuse_rule_of plain_decision_of
   plain_decides =
       ap (λ (o : Option ReuseRule). decision_by_rule o (option_map (λ e. e.serial) (chosen_of held asked)))
       (same_found (λ which. reuse_rule_applies which (plain caches) held asked now) (λ which. standard_rule_applies which caches held asked now) reuse_rules plain_apply)
 
-pub plain_leaves : (caches : Bool) (response : Stored) (request : List Occurrence) (now : ℕ) → permission_on_error (plain caches) response request now ≡ plain_permission_on_error response request now
-unfolding error_rule_on plain_permission_on_error
+pub plain_leaves : (caches : Bool) (response : Stored) (request : List Occurrence) (now : ℕ) → permission_on_error (plain caches) response request now ≡ standard_permission_on_error response request now
+unfolding error_rule_against standard_permission_on_error
 plain_leaves caches response request now =
     let age = age_of response.times now in
     let directives = occurrences_of response.fields in
-    let lasts : Lifetime → Lifetime = lifetime_ended_by_purge response.times in
+    let lasts : Lifetime → Lifetime = lifetime_shortened_by_purge response.times in
     ap permission_from_error_rule (same_found (λ which. error_rule_condition which (situation_of_stored_response (plain caches) response request now)) (λ which. standard_error_rule_condition which (lasts (lifetime_of response.fields)) age directives request) error_rules
     (λ which. ap (λ (l : Lifetime). error_rule_condition which (situation_with (plain caches) (lasts l) age directives request)) (plain_lifetime caches response.status response.fields)
     ∙ plain_error_rule caches which (lasts (lifetime_of response.fields)) age directives request))
@@ -216,12 +216,12 @@ unheeded : (word test : Bool) → word ≡ false → word && test ≡ false
 unheeded word test h = first_absent word test h
 
 pub advice_never_applies : (which : ReuseRule) (s : ReuseSituation) → s.policy.heeds_requests ≡ false → is_rule_on_request_directives which ≡ true → reuse_rule_condition which s ≡ false
-advice_never_applies RequestNoCache s h is = last_absent (is_fresh_situation s) (heeded_request_has_no_cache s) (unheeded s.policy.heeds_requests _ h)
-advice_never_applies AboveMaxAge s h is = last_absent (is_fresh_situation s) (is_above_max_age_limit s) (unheeded s.policy.heeds_requests _ h)
-advice_never_applies BelowMinFresh s h is = last_absent (is_fresh_situation s) (is_below_min_fresh_of_request s) (unheeded s.policy.heeds_requests _ h)
-advice_never_applies StaleNoCache s h is = last_absent (not (is_fresh_situation s)) (heeded_request_has_no_cache s) (unheeded s.policy.heeds_requests _ h)
-advice_never_applies StaleMaxAge s h is = last_absent (not (is_fresh_situation s)) (is_above_max_age_limit s) (unheeded s.policy.heeds_requests _ h)
-advice_never_applies StaleMinFresh s h is = last_absent (not (is_fresh_situation s)) (heeded_request_has_min_fresh s) (unheeded s.policy.heeds_requests _ h)
+advice_never_applies RequestNoCache s h is = last_absent (situation_is_fresh s) (heeded_request_has_no_cache s) (unheeded s.policy.heeds_requests _ h)
+advice_never_applies AboveMaxAge s h is = last_absent (situation_is_fresh s) (is_above_max_age_limit s) (unheeded s.policy.heeds_requests _ h)
+advice_never_applies BelowMinFresh s h is = last_absent (situation_is_fresh s) (is_below_min_fresh_of_request s) (unheeded s.policy.heeds_requests _ h)
+advice_never_applies StaleNoCache s h is = last_absent (not (situation_is_fresh s)) (heeded_request_has_no_cache s) (unheeded s.policy.heeds_requests _ h)
+advice_never_applies StaleMaxAge s h is = last_absent (not (situation_is_fresh s)) (is_above_max_age_limit s) (unheeded s.policy.heeds_requests _ h)
+advice_never_applies StaleMinFresh s h is = last_absent (not (situation_is_fresh s)) (heeded_request_has_min_fresh s) (unheeded s.policy.heeds_requests _ h)
 advice_never_applies which s h is = absurd (never (sym is))
 
 pub advice_never_on_error : (s : ReuseSituation) → s.policy.heeds_requests ≡ false → error_rule_condition on_error.RequestNoCache s ≡ false
@@ -242,8 +242,8 @@ module _ (policy : Policy) (off : policy.heeds_requests ≡ false) (lifetime : L
   advice_is_none StaleNoCache = advice_never_applies StaleNoCache here off refl ∙ sym (advice_never_applies StaleNoCache there off refl)
   advice_is_none StaleMaxAge = advice_never_applies StaleMaxAge here off refl ∙ sym (advice_never_applies StaleMaxAge there off refl)
   advice_is_none StaleMinFresh = advice_never_applies StaleMinFresh here off refl ∙ sym (advice_never_applies StaleMinFresh there off refl)
-  advice_is_none NoMaxStale = ap (λ (m : MaxStale). not (is_fresh_situation here) && not (max_stale_is_present m)) same
-  advice_is_none PastMaxStale = ap (λ (m : MaxStale). not (is_fresh_situation here) && is_past_max_stale (age - lifetime.seconds) m) same
+  advice_is_none NoMaxStale = ap (λ (m : MaxStale). not (situation_is_fresh here) && not (max_stale_is_present m)) same
+  advice_is_none PastMaxStale = ap (λ (m : MaxStale). not (situation_is_fresh here) && is_past_max_stale (age - lifetime.seconds) m) same
   advice_is_none which = refl
 
 module _ (policy : Policy) (held : List Stored) (asked other : Asked) (now : ℕ) (off : policy.heeds_requests ≡ false) (like : RequestsDifferOnlyInIgnoredDirectives held asked other) where
@@ -261,7 +261,7 @@ module _ (policy : Policy) (held : List Stored) (asked other : Asked) (now : ℕ
       ∙ ap (is_some_and (λ e. reuse_rule_condition which (situation_of_request policy e other now))) like.same_chosen_response
 
   pub advice_decides_nothing : decision_of policy held asked now ≡ decision_of policy held other now
-  unfolding decision_of reuse_rule_of
+  unfolding decision_of least_reuse_rule_of
   advice_decides_nothing =
       let rule = same_found (λ which. reuse_rule_applies which policy held asked now) (λ which. reuse_rule_applies which policy held other now) reuse_rules same_apply in
       ap (λ (o : Option ReuseRule). decision_by_rule o (option_map (λ e. e.serial) (chosen_of held asked))) rule
@@ -281,14 +281,14 @@ none_occurs (o ∷ more) d h = at (is_same_directive o.directive d) h (none_occu
 none_stated : (found : List Occurrence) → directive_occurs found StaleIfError ≡ false → seconds_stated_once (seconds_of_directive found StaleIfError) ≡ None
 none_stated found h = rw (none_occurs found StaleIfError h) refl
 
-none_valid : (found : List Occurrence) → directive_occurs found StaleIfError ≡ false → first_valid found StaleIfError ≡ None
+none_valid : (found : List Occurrence) → directive_occurs found StaleIfError ≡ false → first_valid_seconds found StaleIfError ≡ None
 none_valid found h = rw (none_occurs found StaleIfError h) refl
 
-module _ (policy : Policy) (response : Stored) (request : List Occurrence) (now most : ℕ) (silent : HasNoStaleIfError response request) (word : policy.stale_if_error ≡ Some most) where
+module _ (policy : Policy) (response : Stored) (request : List Occurrence) (now most : ℕ) (silent : NeitherHasStaleIfError response request) (word : policy.stale_if_error ≡ Some most) where
   abbrev s : ReuseSituation
   s = situation_of_stored_response policy response request now
 
-  limit_is : stale_limit_of_operator s ≡ Some most
+  limit_is : operator_stale_if_error_limit s ≡ Some most
   limit_is =
       is_given policy response request now most (record { policy_states_limit = word; response_has_none = silent.response_has_none; request_has_none = silent.request_has_none })
 
@@ -297,16 +297,16 @@ module _ (policy : Policy) (response : Stored) (request : List Occurrence) (now 
 
   pub limit_allows : staleness_at policy response now ≤ most → (error_rule_condition on_error.NoDirective s ≡ false) × (error_rule_condition on_error.TooStale s ≡ false)
   limit_allows within = (
-    last_absent (is_none (stale_limit_of_response s) && is_none (stale_limit_of_request s)) (is_none (stale_limit_of_operator s)) (has_value (stale_limit_of_operator s) most limit_is),
-    neither (is_stale_beyond_limit s (stale_limit_of_response s) || is_stale_beyond_limit s (stale_limit_of_request s)) (is_stale_beyond_limit s (stale_limit_of_operator s))
-        (neither (is_stale_beyond_limit s (stale_limit_of_response s)) (is_stale_beyond_limit s (stale_limit_of_request s)) (ap (is_stale_beyond_limit s) (none_stated s.response silent.response_has_none)) (ap (is_stale_beyond_limit s) (none_valid s.request silent.request_has_none)))
-        (past_by (stale_limit_of_operator s) false limit_is (is_not_below most (staleness_at policy response now) within)),
+    last_absent (is_none (stale_if_error_limit_of_response s) && is_none (request_stale_if_error_limit s)) (is_none (operator_stale_if_error_limit s)) (has_value (operator_stale_if_error_limit s) most limit_is),
+    neither (is_stale_beyond_limit s (stale_if_error_limit_of_response s) || is_stale_beyond_limit s (request_stale_if_error_limit s)) (is_stale_beyond_limit s (operator_stale_if_error_limit s))
+        (neither (is_stale_beyond_limit s (stale_if_error_limit_of_response s)) (is_stale_beyond_limit s (request_stale_if_error_limit s)) (ap (is_stale_beyond_limit s) (none_stated s.response silent.response_has_none)) (ap (is_stale_beyond_limit s) (none_valid s.request silent.request_has_none)))
+        (past_by (operator_stale_if_error_limit s) false limit_is (is_not_below most (staleness_at policy response now) within)),
   )
 
   pub limit_ends : most < staleness_at policy response now → error_rule_condition on_error.TooStale s ≡ true
   limit_ends past =
-      or_right (is_stale_beyond_limit s (stale_limit_of_response s) || is_stale_beyond_limit s (stale_limit_of_request s)) (is_stale_beyond_limit s (stale_limit_of_operator s))
-      (past_by (stale_limit_of_operator s) true limit_is (is_below most (staleness_at policy response now) past))
+      or_right (is_stale_beyond_limit s (stale_if_error_limit_of_response s) || is_stale_beyond_limit s (request_stale_if_error_limit s)) (is_stale_beyond_limit s (operator_stale_if_error_limit s))
+      (past_by (operator_stale_if_error_limit s) true limit_is (is_below most (staleness_at policy response now) past))
 
 module _ (policy : Policy) (response : Stored) (request : List Occurrence) (now : ℕ) where
   abbrev with : ReuseSituation
@@ -321,14 +321,14 @@ module _ (policy : Policy) (response : Stored) (request : List Occurrence) (now 
   one_says false false o p (inl h) = absurd (never (sym h))
   one_says false false o p (inr h) = absurd (never (sym h))
 
-  same_limit : (directive_occurs (occurrences_of response.fields) StaleIfError ≡ true) ⊎ (directive_occurs request StaleIfError ≡ true) → stale_limit_of_operator with ≡ stale_limit_of_operator without
+  same_limit : (directive_occurs (occurrences_of response.fields) StaleIfError ≡ true) ⊎ (directive_occurs request StaleIfError ≡ true) → operator_stale_if_error_limit with ≡ operator_stale_if_error_limit without
   same_limit h = one_says (directive_occurs (occurrences_of response.fields) StaleIfError) (directive_occurs request StaleIfError) policy.stale_if_error None h
 
-  same_error_rule : stale_limit_of_operator with ≡ stale_limit_of_operator without → (which : ErrorRule) → error_rule_condition which with ≡ error_rule_condition which without
-  same_error_rule h on_error.NoDirective = ap (λ (o : Option ℕ). (is_none (stale_limit_of_response with) && is_none (stale_limit_of_request with)) && is_none o) h
-  same_error_rule h on_error.TooStale = ap (λ (o : Option ℕ). (is_stale_beyond_limit with (stale_limit_of_response with) || is_stale_beyond_limit with (stale_limit_of_request with)) || is_stale_beyond_limit with o) h
+  same_error_rule : operator_stale_if_error_limit with ≡ operator_stale_if_error_limit without → (which : ErrorRule) → error_rule_condition which with ≡ error_rule_condition which without
+  same_error_rule h on_error.NoDirective = ap (λ (o : Option ℕ). (is_none (stale_if_error_limit_of_response with) && is_none (request_stale_if_error_limit with)) && is_none o) h
+  same_error_rule h on_error.TooStale = ap (λ (o : Option ℕ). (is_stale_beyond_limit with (stale_if_error_limit_of_response with) || is_stale_beyond_limit with (request_stale_if_error_limit with)) || is_stale_beyond_limit with o) h
   same_error_rule h which = refl
 
-  pub stated_limit_stays : (directive_occurs (occurrences_of response.fields) StaleIfError ≡ true) ⊎ (directive_occurs request StaleIfError ≡ true) → error_rule_on policy response request now ≡ error_rule_on (policy_without_stale_if_error policy) response request now
-  unfolding error_rule_on
+  pub stated_limit_stays : (directive_occurs (occurrences_of response.fields) StaleIfError ≡ true) ⊎ (directive_occurs request StaleIfError ≡ true) → error_rule_against policy response request now ≡ error_rule_against (policy_without_stale_if_error policy) response request now
+  unfolding error_rule_against
   stated_limit_stays h = same_found (λ which. error_rule_condition which with) (λ which. error_rule_condition which without) error_rules (same_error_rule (same_limit h))

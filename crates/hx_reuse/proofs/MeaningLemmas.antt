@@ -5,12 +5,12 @@ use Rattle.hx_hop.specs.declared.request_view.Asked.{Asked}
 use Rattle.hx_store.specs.Stored.{Stored}
 use Rattle.hx_policy.specs.declared.words.Policy.{Policy}
 use Rattle.hx_store.specs.Serials.{SerialsAreDistinct}
-use Rattle.hx_store.specs.Shelf.{serials, find_entry}
+use Rattle.hx_store.specs.Shelf.{serials, find_entry_of_serial}
 use Rattle.hx_reuse.specs.declared.decision.Decision.TheVariants.{Hit, Forward}
 use Rattle.hx_reuse.specs.declared.rule.ReuseRule.{ReuseRule}
 use Rattle.hx_reuse.specs.declared.rule.ReuseRule.TheVariants.{Operator, Method, Content, Range, Precondition, UriMiss, VaryMiss}
 use Rattle.hx_reuse.specs.Chosen.{chosen_of}
-use Rattle.hx_reuse.specs.Rules.{reuse_rule_applies, reuse_rule_condition, situation_of_request, is_some_and, is_rule_on_chosen, reuse_rule_of, decision_by_rule, decision_of}
+use Rattle.hx_reuse.specs.Rules.{reuse_rule_applies, reuse_rule_condition, situation_of_request, is_some_and, is_rule_on_chosen, least_reuse_rule_of, decision_by_rule, decision_of}
 use Rattle.hx_reuse.specs.ChosenAndNamed.{ResponseIsChosen, ResponseMayBeSent, IsLeastReuseRule, RuleOnChosenNamesItsSerial}
 use Rattle.hx_reuse.proofs.LeastRule.{rule_is_least, least_is_rule, no_rule_applies, no_rule_found}
 use Rattle.hx_reuse.proofs.Choice.{chosen_is_preferred, chosen_is_held, found_by_serial}
@@ -81,13 +81,13 @@ module _ (policy : Policy) (held : List Stored) (asked : Asked) (now : ℕ) wher
   pub may_be_sent : (serial : ℕ) → decision_of policy held asked now ≡ Hit serial → ResponseMayBeSent policy held asked now serial
   unfolding decision_of serial_of
   may_be_sent serial h =
-      let r = hit_of (reuse_rule_of policy held asked now) (chosen_of held asked) serial h (λ none. no_rule_applies policy held asked now none VaryMiss) in
+      let r = hit_of (least_reuse_rule_of policy held asked now) (chosen_of held asked) serial h (λ none. no_rule_applies policy held asked now none VaryMiss) in
       record { response = r.1.0; chosen_is = r.1.1; serial_is = r.1.2; no_rule = no_rule_applies policy held asked now r.0 }
 
   pub is_sent : (serial : ℕ) → ResponseMayBeSent policy held asked now serial → decision_of policy held asked now ≡ Hit serial
   unfolding decision_of
   is_sent serial may =
-      let none : reuse_rule_of policy held asked now ≡ None = no_rule_found policy held asked now may.no_rule in
+      let none : least_reuse_rule_of policy held asked now ≡ None = no_rule_found policy held asked now may.no_rule in
       let some : option_map (λ e. e.serial) (chosen_of held asked) ≡ Some serial = ap (option_map (λ e. e.serial)) may.chosen_is ∙ ap Some may.serial_is in
       rw (none, some) refl
 
@@ -96,10 +96,10 @@ module _ (policy : Policy) (held : List Stored) (asked : Asked) (now : ℕ) wher
       let may = may_be_sent serial h in
       (may.response, chosen_is_preferred held asked may.response may.chosen_is, may.serial_is)
 
-  pub is_found : (serial : ℕ) → SerialsAreDistinct (serials held) → decision_of policy held asked now ≡ Hit serial → find_entry serial held ≡ chosen_of held asked
+  pub is_found : (serial : ℕ) → SerialsAreDistinct (serials held) → decision_of policy held asked now ≡ Hit serial → find_entry_of_serial serial held ≡ chosen_of held asked
   is_found serial distinct h =
       let may = may_be_sent serial h in
-      ap (λ (s : ℕ). find_entry s held) (sym may.serial_is) ∙ found_by_serial held distinct may.response (chosen_is_held held asked may.response may.chosen_is) ∙ sym may.chosen_is
+      ap (λ (s : ℕ). find_entry_of_serial s held) (sym may.serial_is) ∙ found_by_serial held distinct may.response (chosen_is_held held asked may.response may.chosen_is) ∙ sym may.chosen_is
 
   names_the_response : (rule : ReuseRule) (named : Option ℕ) → reuse_rule_applies rule policy held asked now ≡ true
       → ((is_rule_on_chosen rule ≡ false) × (named ≡ None)) ⊎ ((is_rule_on_chosen rule ≡ true) × (named ≡ option_map (λ e. e.serial) (chosen_of held asked))) → RuleOnChosenNamesItsSerial held asked rule named
@@ -111,12 +111,12 @@ module _ (policy : Policy) (held : List Stored) (asked : Asked) (now : ℕ) wher
   pub names_the_least : (rule : ReuseRule) (named : Option ℕ) → decision_of policy held asked now ≡ Forward rule named → IsLeastReuseRule policy held asked now rule × RuleOnChosenNamesItsSerial held asked rule named
   unfolding decision_of
   names_the_least rule named h =
-      let r = forward_of (reuse_rule_of policy held asked now) (option_map (λ e. e.serial) (chosen_of held asked)) rule named h in
+      let r = forward_of (least_reuse_rule_of policy held asked now) (option_map (λ e. e.serial) (chosen_of held asked)) rule named h in
       let least = rule_is_least policy held asked now rule r.0 in
       (least, names_the_response rule named least.rule_applies (named_by rule (option_map (λ e. e.serial) (chosen_of held asked)) named (is_rule_on_chosen rule) refl r.1))
 
   pub forwards : (rule : ReuseRule) → IsLeastReuseRule policy held asked now rule → (named : Option ℕ) × (decision_of policy held asked now ≡ Forward rule named)
   unfolding decision_of
   forwards rule least =
-      let some : reuse_rule_of policy held asked now ≡ Some rule = least_is_rule policy held asked now rule least in
+      let some : least_reuse_rule_of policy held asked now ≡ Some rule = least_is_rule policy held asked now rule least in
       (cond (is_rule_on_chosen rule) (option_map (λ e. e.serial) (chosen_of held asked)) None, rw some refl)

@@ -12,7 +12,7 @@ use Rattle.hx_reuse.specs.declared.rule.ErrorRule.{ErrorRule}
 use Rattle.hx_reuse.specs.declared.rule.ErrorRule.TheVariants.{NoCache, MustRevalidate, NoLifetime, RequestNoCache, NoDirective, TooStale}
 use Rattle.hx_reuse.specs.RuleNames.{error_rule_number}
 use Rattle.hx_reuse.specs.Rules.{ReuseSituation, forbids_sending_stale}
-use Rattle.hx_reuse.specs.ErrorRules.{seconds_stated_once, stale_limit_of_response, stale_limit_of_request, stale_limit_of_operator, is_stale_beyond_limit, error_rule_condition, error_rules, situation_of_stored_response, error_rule_on}
+use Rattle.hx_reuse.specs.ErrorRules.{seconds_stated_once, stale_if_error_limit_of_response, request_stale_if_error_limit, operator_stale_if_error_limit, is_stale_beyond_limit, error_rule_condition, error_rules, situation_of_stored_response, error_rule_against}
 use Rattle.hx_reuse.specs.OnError.{ResponseHasStaleIfErrorOf, RequestHasStaleIfErrorOf, OperatorGivesStaleIfErrorOf, staleness_at, ResponseMayBeSentOnError, IsLeastErrorRule}
 use Rattle.hx_fields.proofs.FirstThat.{IsMember, ascends, passes, fails_before, none_passes, none_found, first_found}
 use Rattle.hx_fields.proofs.JoinedTests.{not_false, not_true, left_false, right_false, neither, last_absent, first_absent, second_false, either_false, some_value, has_value, not_below, is_not_below}
@@ -44,24 +44,24 @@ module _ (policy : Policy) (response : Stored) (request : List Occurrence) (now 
   abbrev here : ReuseSituation
   here = situation_of_stored_response policy response request now
 
-  pub least_on_error : (least : ErrorRule) → error_rule_on policy response request now ≡ Some least → IsLeastErrorRule policy response request now least
-  unfolding error_rule_on
+  pub least_on_error : (least : ErrorRule) → error_rule_against policy response request now ≡ Some least → IsLeastErrorRule policy response request now least
+  unfolding error_rule_against
   least_on_error least h = record {
     rule_applies = passes error_rule_number (λ r. error_rule_condition r here) error_rules least h;
     none_before = λ r l. fails_before error_rule_number (λ r. error_rule_condition r here) 0 error_rules least r in_order h (listed r) l;
   }
 
-  pub named_on_error : (least : ErrorRule) → IsLeastErrorRule policy response request now least → error_rule_on policy response request now ≡ Some least
-  unfolding error_rule_on
+  pub named_on_error : (least : ErrorRule) → IsLeastErrorRule policy response request now least → error_rule_against policy response request now ≡ Some least
+  unfolding error_rule_against
   named_on_error least is =
       first_found error_rule_number (λ r. error_rule_condition r here) 0 error_rules least in_order (listed least) is.rule_applies is.none_before
 
-  none_on_error : error_rule_on policy response request now ≡ None → (rule : ErrorRule) → error_rule_condition rule here ≡ false
-  unfolding error_rule_on
+  none_on_error : error_rule_against policy response request now ≡ None → (rule : ErrorRule) → error_rule_condition rule here ≡ false
+  unfolding error_rule_against
   none_on_error h rule = none_passes error_rule_number (λ r. error_rule_condition r here) error_rules rule h (listed rule)
 
-  none_is_found : ((rule : ErrorRule) → error_rule_condition rule here ≡ false) → error_rule_on policy response request now ≡ None
-  unfolding error_rule_on
+  none_is_found : ((rule : ErrorRule) → error_rule_condition rule here ≡ false) → error_rule_against policy response request now ≡ None
+  unfolding error_rule_against
   none_is_found none = none_found error_rule_number (λ r. error_rule_condition r here) error_rules none
 
   -- ---- the limit of the operator's line
@@ -81,12 +81,12 @@ module _ (policy : Policy) (response : Stored) (request : List Occurrence) (now 
   neither_says : (a b : Bool) (o : Option ℕ) → a ≡ false → b ≡ false → cond (a || b) None o ≡ o
   neither_says a b o h k = rw (h, k) refl
 
-  gives : (most : ℕ) → stale_limit_of_operator here ≡ Some most → OperatorGivesStaleIfErrorOf policy response request most
+  gives : (most : ℕ) → operator_stale_if_error_limit here ≡ Some most → OperatorGivesStaleIfErrorOf policy response request most
   gives most h =
       let r = where_neither response_says request_says policy.stale_if_error most h in
       record { policy_states_limit = r.1.1; response_has_none = r.0; request_has_none = r.1.0 }
 
-  pub is_given : (most : ℕ) → OperatorGivesStaleIfErrorOf policy response request most → stale_limit_of_operator here ≡ Some most
+  pub is_given : (most : ℕ) → OperatorGivesStaleIfErrorOf policy response request most → operator_stale_if_error_limit here ≡ Some most
   is_given most g = neither_says response_says request_says policy.stale_if_error g.response_has_none g.request_has_none ∙ g.policy_states_limit
 
   abbrev IsAllowed : Type 0
@@ -102,15 +102,15 @@ module _ (policy : Policy) (response : Stored) (request : List Occurrence) (now 
     revalidated = forbids_sending_stale here
 
     allowed : IsAllowed
-    allowed = at (either_false (is_none (stale_limit_of_response here) && is_none (stale_limit_of_request here)) (is_none (stale_limit_of_operator here)) (none NoDirective))
+    allowed = at (either_false (is_none (stale_if_error_limit_of_response here) && is_none (request_stale_if_error_limit here)) (is_none (operator_stale_if_error_limit here)) (none NoDirective))
       where
-        stated : (is_none (stale_limit_of_response here) ≡ false) ⊎ (is_none (stale_limit_of_request here) ≡ false) → IsAllowed
-        stated (inl h) = let limit = some_value (stale_limit_of_response here) h in inl (limit.0, states (seconds_of_directive here.response directive.StaleIfError) limit.0 limit.1)
-        stated (inr h) = let limit = some_value (stale_limit_of_request here) h in inr (inl (limit.0, limit.1))
+        stated : (is_none (stale_if_error_limit_of_response here) ≡ false) ⊎ (is_none (request_stale_if_error_limit here) ≡ false) → IsAllowed
+        stated (inl h) = let limit = some_value (stale_if_error_limit_of_response here) h in inl (limit.0, states (seconds_of_directive here.response directive.StaleIfError) limit.0 limit.1)
+        stated (inr h) = let limit = some_value (request_stale_if_error_limit here) h in inr (inl (limit.0, limit.1))
 
-        at : (is_none (stale_limit_of_response here) && is_none (stale_limit_of_request here) ≡ false) ⊎ (is_none (stale_limit_of_operator here) ≡ false) → IsAllowed
-        at (inl h) = stated (either_false (is_none (stale_limit_of_response here)) (is_none (stale_limit_of_request here)) h)
-        at (inr h) = let limit = some_value (stale_limit_of_operator here) h in inr (inr (limit.0, gives limit.0 limit.1))
+        at : (is_none (stale_if_error_limit_of_response here) && is_none (request_stale_if_error_limit here) ≡ false) ⊎ (is_none (operator_stale_if_error_limit here) ≡ false) → IsAllowed
+        at (inl h) = stated (either_false (is_none (stale_if_error_limit_of_response here)) (is_none (request_stale_if_error_limit here)) h)
+        at (inr h) = let limit = some_value (operator_stale_if_error_limit here) h in inr (inr (limit.0, gives limit.0 limit.1))
 
     sent : ResponseMayBeSentOnError policy response request now
     sent =
@@ -118,8 +118,8 @@ module _ (policy : Policy) (response : Stored) (request : List Occurrence) (now 
         let proxy = directive_occurs here.response directive.ProxyRevalidate in
         let shared = directive_occurs here.response directive.SMaxage in
         let neither_two = left_false (must || proxy) shared (none MustRevalidate) in
-        let two = is_stale_beyond_limit here (stale_limit_of_response here) || is_stale_beyond_limit here (stale_limit_of_request here) in
-        let of_two = left_false two (is_stale_beyond_limit here (stale_limit_of_operator here)) (none TooStale) in
+        let two = is_stale_beyond_limit here (stale_if_error_limit_of_response here) || is_stale_beyond_limit here (request_stale_if_error_limit here) in
+        let of_two = left_false two (is_stale_beyond_limit here (operator_stale_if_error_limit here)) (none TooStale) in
         record {
           no_no_cache = none NoCache;
           no_must_revalidate = left_false must proxy neither_two;
@@ -128,12 +128,12 @@ module _ (policy : Policy) (response : Stored) (request : List Occurrence) (now 
           has_a_lifetime = not_false here.lifetime.explicit (none NoLifetime);
           not_to_be_validated = λ heeds. second_false policy.heeds_requests (directive_occurs request directive.NoCache) heeds (none RequestNoCache);
           is_allowed = allowed;
-          within_its_limit = λ most h. within (stale_limit_of_response here) most (left_false (is_stale_beyond_limit here (stale_limit_of_response here)) (is_stale_beyond_limit here (stale_limit_of_request here)) of_two) (ap seconds_stated_once h);
-          within_the_requests = λ most h. within (stale_limit_of_request here) most (right_false (is_stale_beyond_limit here (stale_limit_of_response here)) (is_stale_beyond_limit here (stale_limit_of_request here)) of_two) h;
-          within_the_operators = λ most h. within (stale_limit_of_operator here) most (right_false two (is_stale_beyond_limit here (stale_limit_of_operator here)) (none TooStale)) (is_given most h);
+          within_its_limit = λ most h. within (stale_if_error_limit_of_response here) most (left_false (is_stale_beyond_limit here (stale_if_error_limit_of_response here)) (is_stale_beyond_limit here (request_stale_if_error_limit here)) of_two) (ap seconds_stated_once h);
+          within_the_requests = λ most h. within (request_stale_if_error_limit here) most (right_false (is_stale_beyond_limit here (stale_if_error_limit_of_response here)) (is_stale_beyond_limit here (request_stale_if_error_limit here)) of_two) h;
+          within_the_operators = λ most h. within (operator_stale_if_error_limit here) most (right_false two (is_stale_beyond_limit here (operator_stale_if_error_limit here)) (none TooStale)) (is_given most h);
         }
 
-  pub sent_may_be : error_rule_on policy response request now ≡ None → ResponseMayBeSentOnError policy response request now
+  pub sent_may_be : error_rule_against policy response request now ≡ None → ResponseMayBeSentOnError policy response request now
   sent_may_be h = sent (none_on_error h)
 
   -- ---- and back
@@ -148,14 +148,14 @@ module _ (policy : Policy) (response : Stored) (request : List Occurrence) (now 
 
   some_limit : IsAllowed → error_rule_condition NoDirective here ≡ false
   some_limit (inl limit) =
-      first_absent (is_none (stale_limit_of_response here) && is_none (stale_limit_of_request here)) (is_none (stale_limit_of_operator here))
-      (first_absent (is_none (stale_limit_of_response here)) (is_none (stale_limit_of_request here)) (has_value (stale_limit_of_response here) limit.0 (ap seconds_stated_once limit.1)))
+      first_absent (is_none (stale_if_error_limit_of_response here) && is_none (request_stale_if_error_limit here)) (is_none (operator_stale_if_error_limit here))
+      (first_absent (is_none (stale_if_error_limit_of_response here)) (is_none (request_stale_if_error_limit here)) (has_value (stale_if_error_limit_of_response here) limit.0 (ap seconds_stated_once limit.1)))
   some_limit (inr (inl limit)) =
-      first_absent (is_none (stale_limit_of_response here) && is_none (stale_limit_of_request here)) (is_none (stale_limit_of_operator here))
-      (last_absent (is_none (stale_limit_of_response here)) (is_none (stale_limit_of_request here)) (has_value (stale_limit_of_request here) limit.0 limit.1))
+      first_absent (is_none (stale_if_error_limit_of_response here) && is_none (request_stale_if_error_limit here)) (is_none (operator_stale_if_error_limit here))
+      (last_absent (is_none (stale_if_error_limit_of_response here)) (is_none (request_stale_if_error_limit here)) (has_value (request_stale_if_error_limit here) limit.0 limit.1))
   some_limit (inr (inr limit)) =
-      last_absent (is_none (stale_limit_of_response here) && is_none (stale_limit_of_request here)) (is_none (stale_limit_of_operator here))
-      (has_value (stale_limit_of_operator here) limit.0 (is_given limit.0 limit.1))
+      last_absent (is_none (stale_if_error_limit_of_response here) && is_none (request_stale_if_error_limit here)) (is_none (operator_stale_if_error_limit here))
+      (has_value (operator_stale_if_error_limit here) limit.0 (is_given limit.0 limit.1))
 
   module _ (may : ResponseMayBeSentOnError policy response request now) where
     none_applies : (rule : ErrorRule) → error_rule_condition rule here ≡ false
@@ -169,11 +169,11 @@ module _ (policy : Policy) (response : Stored) (request : List Occurrence) (now 
     none_applies RequestNoCache = heeded policy.heeds_requests (directive_occurs request directive.NoCache) may.not_to_be_validated
     none_applies NoDirective = some_limit may.is_allowed
     none_applies TooStale =
-        neither (is_stale_beyond_limit here (stale_limit_of_response here) || is_stale_beyond_limit here (stale_limit_of_request here)) (is_stale_beyond_limit here (stale_limit_of_operator here))
-        (neither (is_stale_beyond_limit here (stale_limit_of_response here)) (is_stale_beyond_limit here (stale_limit_of_request here))
-        (not_past (stale_limit_of_response here) (λ most h. may.within_its_limit most (states (seconds_of_directive here.response directive.StaleIfError) most h)))
-        (not_past (stale_limit_of_request here) (λ most h. may.within_the_requests most h)))
-        (not_past (stale_limit_of_operator here) (λ most h. may.within_the_operators most (gives most h)))
+        neither (is_stale_beyond_limit here (stale_if_error_limit_of_response here) || is_stale_beyond_limit here (request_stale_if_error_limit here)) (is_stale_beyond_limit here (operator_stale_if_error_limit here))
+        (neither (is_stale_beyond_limit here (stale_if_error_limit_of_response here)) (is_stale_beyond_limit here (request_stale_if_error_limit here))
+        (not_past (stale_if_error_limit_of_response here) (λ most h. may.within_its_limit most (states (seconds_of_directive here.response directive.StaleIfError) most h)))
+        (not_past (request_stale_if_error_limit here) (λ most h. may.within_the_requests most h)))
+        (not_past (operator_stale_if_error_limit here) (λ most h. may.within_the_operators most (gives most h)))
 
-    pub may_be_sent_on_error : error_rule_on policy response request now ≡ None
+    pub may_be_sent_on_error : error_rule_against policy response request now ≡ None
     may_be_sent_on_error = none_is_found none_applies

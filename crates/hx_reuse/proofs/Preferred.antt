@@ -9,7 +9,7 @@ use Rattle.hx_store.specs.Stored.{Stored}
 use Rattle.hx_target.specs.Keys.{same_key}
 use Rattle.hx_fields.specs.Line.{Field}
 use Rattle.hx_store.specs.Serials.{SerialsAreDistinct}
-use Rattle.hx_store.specs.Shelf.{find_entry, entry_matches_request, matching_serials, serials as serials_held, serials_of_key}
+use Rattle.hx_store.specs.Shelf.{find_entry_of_serial, entry_vary_matches_request, matching_serials, serials as serials_held, serials_of_key}
 use Rattle.hx_reuse.specs.Chosen.{entries_of_key, nominates, is_more_recent, is_preferred_over, preferred_of_two, most_preferred_response, chosen_of}
 use Rattle.hx_fields.proofs.FirstThat.{IsMember}
 use Rattle.hx_reuse.proofs.Members.{HasDistinctSerials, AreSerialsOf, are_serials, distinct_entries}
@@ -221,9 +221,9 @@ member_found h (r ∷ ss) s e (inr n) k = after (h r) (member_found h ss s e n k
     after None m = m
     after (Some x) m = inr m
 
-pub find_entry-find : (s : ℕ) (held : List Stored) → find_entry s held ≡ find (λ e. nat_eq e.serial s) held
-find_entry-find s [] = refl
-find_entry-find s (e ∷ es) = ap (λ o. cond (nat_eq e.serial s) (Some e) o) (find_entry-find s es)
+pub find_entry_of_serial-find : (s : ℕ) (held : List Stored) → find_entry_of_serial s held ≡ find (λ e. nat_eq e.serial s) held
+find_entry_of_serial-find s [] = refl
+find_entry_of_serial-find s (e ∷ es) = ap (λ o. cond (nat_eq e.serial s) (Some e) o) (find_entry_of_serial-find s es)
 
 pub nat_eq_true : (m n : ℕ) → nat_eq m n ≡ true → m ≡ n
 nat_eq_true m n h = grind (arith, nat_tests)
@@ -233,28 +233,28 @@ nat_eq_same m = grind (arith, nat_tests)
 
 module _ (held : List Stored) (asked : Asked) (serials : List ℕ) (distinct : HasDistinctSerials held) (are : AreSerialsOf held asked serials) where
   -- what the serials look up is what is held for the key
-  found_is : (e : Stored) → IsMember e (filter_map (λ s. find_entry s held) serials) → IsMember e (entries_of_key held asked)
+  found_is : (e : Stored) → IsMember e (filter_map (λ s. find_entry_of_serial s held) serials) → IsMember e (entries_of_key held asked)
   found_is e m =
-      let r = found_member (λ s. find_entry s held) serials e m in
+      let r = found_member (λ s. find_entry_of_serial s held) serials e m in
       let k = are.each_held r.0 r.1 in
-      let in_held = find_member (λ x. nat_eq x.serial r.0) held e (sym (find_entry-find r.0 held) ∙ r.2) in
+      let in_held = find_member (λ x. nat_eq x.serial r.0) held e (sym (find_entry_of_serial-find r.0 held) ∙ r.2) in
       let other = filter_member (λ x. same_key x.key asked.target.key) held k.0 k.1 in
       let same : k.0 ≡ e = distinct k.0 e other.0 in_held.0 (k.2 ∙ sym (nat_eq_true e.serial r.0 in_held.1)) in
       rw (← same) k.1
 
-  found_all : (e : Stored) → IsMember e (entries_of_key held asked) → IsMember e (filter_map (λ s. find_entry s held) serials)
+  found_all : (e : Stored) → IsMember e (entries_of_key held asked) → IsMember e (filter_map (λ s. find_entry_of_serial s held) serials)
   found_all e m =
       let in_held : IsMember e held = (filter_member (λ x. same_key x.key asked.target.key) held e m).0 in
       let r = member_find (λ x. nat_eq x.serial e.serial) held e in_held (nat_eq_same e.serial) in
       let f = find_member (λ x. nat_eq x.serial e.serial) held r.0 r.1 in
       let same : r.0 ≡ e = distinct r.0 e f.0 in_held (nat_eq_true r.0.serial e.serial f.1) in
-      member_found (λ s. find_entry s held) serials e.serial e (are.none_missing e m) (find_entry-find e.serial held ∙ (r.1 ∙ ap Some same))
+      member_found (λ s. find_entry_of_serial s held) serials e.serial e (are.none_missing e m) (find_entry_of_serial-find e.serial held ∙ (r.1 ∙ ap Some same))
 
   -- the preferred one of the entries with the key's serials is the chosen one
-  preferred_is_chosen : most_preferred_response (filter (λ e. vary_matches e.nominated asked.fields) (filter_map (λ s. find_entry s held) serials)) ≡ chosen_of held asked
+  preferred_is_chosen : most_preferred_response (filter (λ e. vary_matches e.nominated asked.fields) (filter_map (λ s. find_entry_of_serial s held) serials)) ≡ chosen_of held asked
   preferred_is_chosen =
       let here : Stored → Bool = λ e. vary_matches e.nominated asked.fields in
-      let found : List Stored = filter_map (λ s. find_entry s held) serials in
+      let found : List Stored = filter_map (λ s. find_entry_of_serial s held) serials in
       same_preferred held distinct (filter here found) (filter here (entries_of_key held asked))
       (λ e m. (filter_member (λ x. same_key x.key asked.target.key) held e (found_is e (filter_member here found e m).0)).0)
       (λ e m. let r = filter_member here found e m in member_filter here (entries_of_key held asked) e r.1 (found_is e r.0))
@@ -266,17 +266,17 @@ cons_option_if false o es = es
 
 -- the entries of the serials that match are those that match of the entries of the serials
 matching_found : (held : List Stored) (request : List Field) (ss : List ℕ) →
-    filter_map (λ s. find_entry s held) (filter (λ s. entry_matches_request request (find_entry s held)) ss)
-    ≡ filter (λ e. vary_matches e.nominated request) (filter_map (λ s. find_entry s held) ss)
+    filter_map (λ s. find_entry_of_serial s held) (filter (λ s. entry_vary_matches_request request (find_entry_of_serial s held)) ss)
+    ≡ filter (λ e. vary_matches e.nominated request) (filter_map (λ s. find_entry_of_serial s held) ss)
 matching_found held request [] = refl
 matching_found held request (s ∷ ss) =
-    let found : List ℕ → List Stored = λ rs. filter_map (λ r. find_entry r held) rs in
-    let rest = filter (λ r. entry_matches_request request (find_entry r held)) ss in
+    let found : List ℕ → List Stored = λ rs. filter_map (λ r. find_entry_of_serial r held) rs in
+    let rest = filter (λ r. entry_vary_matches_request request (find_entry_of_serial r held)) ss in
     let here : Stored → Bool = λ e. vary_matches e.nominated request in
     let more : found rest ≡ filter here (found ss) = matching_found held request ss in
-    let Same : Option Stored → Type 0 = λ o. cons_option_if (entry_matches_request request o) o (found rest) ≡ filter here (cons_option o (found ss)) in
-    kept s (entry_matches_request request (find_entry s held)) rest
-    ∙ (elim (find_entry s held) as Same [
+    let Same : Option Stored → Type 0 = λ o. cons_option_if (entry_vary_matches_request request o) o (found rest) ≡ filter here (cons_option o (found ss)) in
+    kept s (entry_vary_matches_request request (find_entry_of_serial s held)) rest
+    ∙ (elim (find_entry_of_serial s held) as Same [
       | None ↦ more
       | Some e ↦ elim (here e) as (λ b. cons_option_if b (Some e) (found rest) ≡ cond b (e ∷ filter here (found ss)) (filter here (found ss))) [
         | true ↦ ap (λ es. e ∷ es) more
@@ -284,13 +284,13 @@ matching_found held request (s ∷ ss) =
       ]
     ])
   where
-    kept : (s : ℕ) (b : Bool) (rest : List ℕ) → filter_map (λ r. find_entry r held) (cond b (s ∷ rest) rest) ≡ cons_option_if b (find_entry s held) (filter_map (λ r. find_entry r held) rest)
+    kept : (s : ℕ) (b : Bool) (rest : List ℕ) → filter_map (λ r. find_entry_of_serial r held) (cond b (s ∷ rest) rest) ≡ cons_option_if b (find_entry_of_serial s held) (filter_map (λ r. find_entry_of_serial r held) rest)
     kept s true rest = refl
     kept s false rest = refl
 
 -- the preferred one of those that match by the shelf's word is the chosen one
 pub preferred_match_is_chosen : (held : List Stored) (asked : Asked) → SerialsAreDistinct (serials_held held) →
-    most_preferred_response (filter_map (λ s. find_entry s held) (matching_serials asked.target.key asked.fields held)) ≡ chosen_of held asked
+    most_preferred_response (filter_map (λ s. find_entry_of_serial s held) (matching_serials asked.target.key asked.fields held)) ≡ chosen_of held asked
 preferred_match_is_chosen held asked distinct =
     let serials = serials_of_key asked.target.key held in
     ap most_preferred_response (matching_found held asked.fields serials)

@@ -11,14 +11,14 @@ use Rattle.hx_directives.specs.declared.names.Directive.TheVariants.{NoCache}
 use Rattle.hx_age.specs.declared.lifetimes.Lifetime.{Lifetime}
 use Rattle.hx_age.specs.Lifetime.{lifetime_of}
 use Rattle.hx_age.specs.declared.moments.Times.{Times}
-use Rattle.hx_age.specs.Age.{age_of, lifetime_ended_at, lifetime_ended_by_purge}
+use Rattle.hx_age.specs.Age.{age_of, lifetime_shortened_to_end_by, lifetime_shortened_by_purge}
 use Rattle.hx_vary.specs.declared.nominated_values.NominatedValue.{NominatedValue}
 use Rattle.hx_vary.specs.Vary.{is_same_value, vary_matches}
 use Rattle.hx_hop.specs.declared.request_view.Asked.{Asked}
 use Rattle.hx_store.specs.Stored.{Stored}
 use Rattle.hx_policy.specs.declared.words.Policy.{Policy}
 use Rattle.hx_reuse.specs.Lifetimes.{lifetime_of_stored_response, lifetime_under_policy}
-use Rattle.hx_reuse.specs.ErrorRules.{error_rule_on}
+use Rattle.hx_reuse.specs.ErrorRules.{error_rule_against}
 use Rattle.hx_reuse.specs.Reusable.{ResponseMayBeReused, MayBeSentFresh, MayBeSentStale}
 use Rattle.hx_reuse.specs.Promises.{ResponseForbidsStale, ResponseIsTheHit, ResponseWasPurged}
 use Rattle.hx_fields.proofs.FirstThat.{IsMember}
@@ -51,16 +51,16 @@ passed p (y ∷ ys) x h (inr m) = passed p ys x (right_true (p y) (list_all p ys
 
 -- ---- a purge
 
-not_longer : (purge : Option ℕ) (times : Times) (lifetime : Lifetime) → (lifetime_ended_at purge times lifetime).seconds ≤ lifetime.seconds
+not_longer : (purge : Option ℕ) (times : Times) (lifetime : Lifetime) → (lifetime_shortened_to_end_by purge times lifetime).seconds ≤ lifetime.seconds
 not_longer None times lifetime = omega arith
 not_longer (Some moment) times lifetime = omega arith
 
-over_once_purged : (times : Times) (lifetime : Lifetime) (purge now : ℕ) → times.expired ≡ Some purge → purge ≤ now → (lifetime_ended_by_purge times lifetime).seconds ≤ age_of times now
+over_once_purged : (times : Times) (lifetime : Lifetime) (purge now : ℕ) → times.expired ≡ Some purge → purge ≤ now → (lifetime_shortened_by_purge times lifetime).seconds ≤ age_of times now
 over_once_purged times lifetime purge now is before = rw is (omega arith)
 
 pub lasts_as_long : (policy : Policy) (response : Stored) → response.times.expired ≡ None → lifetime_of_stored_response policy response ≡ lifetime_under_policy policy response.status response.fields
 lasts_as_long policy response none =
-    ap (λ (o : Option ℕ). lifetime_ended_at o response.times (lifetime_under_policy policy response.status response.fields)) none
+    ap (λ (o : Option ℕ). lifetime_shortened_to_end_by o response.times (lifetime_under_policy policy response.status response.fields)) none
 
 module _ (policy : Policy) (held : List Stored) (asked : Asked) (now : ℕ) (response : Stored) (sent : ResponseIsTheHit policy held asked now response) where
   reused : ResponseMayBeReused policy held asked now response
@@ -112,7 +112,7 @@ module _ (policy : Policy) (held : List Stored) (asked : Asked) (now : ℕ) (res
   has_no_no_cache h = never (sym h ∙ reused.no_no_cache)
 
 module _ (policy : Policy) (response : Stored) (request : List Occurrence) (now : ℕ) where
-  pub never_on_error : error_rule_on policy response request now ≡ None → (directive_occurs (occurrences_of response.fields) NoCache ≡ true) ⊎ ResponseForbidsStale response → ⊥
+  pub never_on_error : error_rule_against policy response request now ≡ None → (directive_occurs (occurrences_of response.fields) NoCache ≡ true) ⊎ ResponseForbidsStale response → ⊥
   never_on_error h (inl no_cache) = let may = sent_may_be policy response request now h in never (sym no_cache ∙ may.no_no_cache)
   never_on_error h (inr (inl must)) = let may = sent_may_be policy response request now h in never (sym must ∙ may.no_must_revalidate)
   never_on_error h (inr (inr (inl proxy))) = let may = sent_may_be policy response request now h in never (sym proxy ∙ may.no_proxy_revalidate)

@@ -14,7 +14,7 @@ use Rattle.hx_reuse.specs.declared.rule.ReuseRule.{ReuseRule}
 use Rattle.hx_reuse.specs.declared.rule.ReuseRule.TheVariants.{Operator, Method, Content, Range, Precondition, UriMiss, VaryMiss}
 use Rattle.hx_reuse.specs.Chosen.{chosen_of}
 use Rattle.hx_reuse.specs.Lifetimes.{lifetime_of_stored_response}
-use Rattle.hx_reuse.specs.Rules.{situation_with, situation_of_request, is_some_and, reuse_rule_condition, reuse_rule_applies, reuse_rules, reuse_rule_of, decision_by_rule, decision_of}
+use Rattle.hx_reuse.specs.Rules.{situation_with, situation_of_request, is_some_and, reuse_rule_condition, reuse_rule_applies, reuse_rules, least_reuse_rule_of, decision_by_rule, decision_of}
 use Rattle.hx_reuse.specs.Ranges.{RequestsAskForTheSameResponse, RangeDoesNotChangeTheDecision, ForwardedRangesGoPastTheStore}
 use Rattle.hx_fields.proofs.JoinedTests.{never, first_absent, second_false}
 use Rattle.hx_reuse.proofs.LineLemmas.{same_found, same_of_some}
@@ -35,7 +35,7 @@ module _ (policy : Policy) (held : List Stored) (asked other : Asked) (now : ℕ
       ∙ ap (is_some_and (λ e. reuse_rule_condition which (situation_of_request policy e other now))) like.same_chosen_response
 
   pub decides_alike : decision_of policy held asked now ≡ decision_of policy held other now
-  unfolding decision_of reuse_rule_of
+  unfolding decision_of least_reuse_rule_of
   decides_alike =
       let rule = same_found (λ which. reuse_rule_applies which policy held asked now) (λ which. reuse_rule_applies which policy held other now) reuse_rules same_apply in
       ap (λ (o : Option ReuseRule). decision_by_rule o (option_map (λ e. e.serial) (chosen_of held asked))) rule

@@ -2,7 +2,7 @@
 use Rattle.std.proofs.Common.{◌≡◌, ℕ, ◌+◌, ◌-◌, ◌⊎◌, inl, inr, Bool, true, false, List, refl, sym, ◌∙◌, ap}
 use Rattle.std.specs.Prelude.{◌&&◌, ◌||◌, not, nat_lt, codes, bytes_eq, is_none, is_some, Some, None}
 use Rattle.std.proofs.lemmas.Slice.Eq.{bytes_eq-Decides}
-use Rattle.hx_directives.specs.Answers.{directive_occurs, first_valid, max_stale}
+use Rattle.hx_directives.specs.Answers.{directive_occurs, first_valid_seconds, max_stale}
 use Rattle.hx_directives.specs.declared.names.Directive.TheVariants as directive
 use Rattle.hx_directives.specs.declared.answers.MaxStale.{MaxStale}
 use Rattle.hx_directives.specs.declared.answers.MaxStale.TheVariants.{Absent, Any, UpTo}
@@ -17,7 +17,7 @@ use Rattle.hx_reuse.specs.declared.decision.Decision.TheVariants.{Hit}
 use Rattle.hx_reuse.specs.declared.rule.ReuseRule.{ReuseRule}
 use Rattle.hx_reuse.specs.declared.rule.ReuseRule.TheVariants.{Operator, Method, Content, Range, Precondition, UriMiss, VaryMiss, ResponseNoCache, RequestNoCache, AboveMaxAge, BelowMinFresh, MustRevalidate, NoLifetime, StaleNoCache, NoMaxStale, PastMaxStale, StaleMaxAge, StaleMinFresh}
 use Rattle.hx_reuse.specs.Chosen.{entries_of_key, chosen_of}
-use Rattle.hx_reuse.specs.Rules.{ReuseSituation, reuse_rule_applies, reuse_rule_condition, situation_of_request, is_fresh_situation, forbids_sending_stale, heeded_request_has_no_cache, is_above_max_age_limit, is_below_min_fresh_of_request, heeded_request_has_min_fresh, max_stale_is_present, is_past_max_stale, is_some_and, decision_of}
+use Rattle.hx_reuse.specs.Rules.{ReuseSituation, reuse_rule_applies, reuse_rule_condition, situation_of_request, situation_is_fresh, forbids_sending_stale, heeded_request_has_no_cache, is_above_max_age_limit, is_below_min_fresh_of_request, heeded_request_has_min_fresh, max_stale_is_present, is_past_max_stale, is_some_and, decision_of}
 use Rattle.hx_reuse.specs.Reusable.{ResponseIsWithinMaxAge, ResponseIsFreshForMinFresh, MayBeSentFresh, MayBeSentStale, MaxStaleAcceptsStaleness, ResponseMayBeReused}
 use Rattle.hx_fields.proofs.JoinedTests.{never, second_false, first_absent, last_absent, under_not, not_first, not_false, left_false, right_false, neither, no_value, not_below, is_not_below, below, is_below, not_true}
 use Rattle.hx_reuse.proofs.ValueTests.{test_false, none_tests}
@@ -65,50 +65,50 @@ module _ (policy : Policy) (e : Stored) (asked : Asked) (now : ℕ) where
 
   within_max_age : is_above_max_age_limit here ≡ false → policy.heeds_requests ≡ true → ResponseIsWithinMaxAge e asked now
   within_max_age h heeds most is =
-      let over = is_some_and (λ m. nat_lt m here.age) (first_valid here.request directive.MaxAge) in
-      not_below most here.age (test_false (λ m. nat_lt m here.age) (first_valid here.request directive.MaxAge) most (second_false policy.heeds_requests over heeds h) is)
+      let over = is_some_and (λ m. nat_lt m here.age) (first_valid_seconds here.request directive.MaxAge) in
+      not_below most here.age (test_false (λ m. nat_lt m here.age) (first_valid_seconds here.request directive.MaxAge) most (second_false policy.heeds_requests over heeds h) is)
 
   fresh_for_min_fresh : is_below_min_fresh_of_request here ≡ false → policy.heeds_requests ≡ true → ResponseIsFreshForMinFresh policy e asked now
   fresh_for_min_fresh h heeds least is =
-      let short = is_some_and (λ m. nat_lt here.lifetime.seconds (here.age + m)) (first_valid here.request directive.MinFresh) in
-      not_below here.lifetime.seconds (here.age + least) (test_false (λ m. nat_lt here.lifetime.seconds (here.age + m)) (first_valid here.request directive.MinFresh) least (second_false policy.heeds_requests short heeds h) is)
+      let short = is_some_and (λ m. nat_lt here.lifetime.seconds (here.age + m)) (first_valid_seconds here.request directive.MinFresh) in
+      not_below here.lifetime.seconds (here.age + least) (test_false (λ m. nat_lt here.lifetime.seconds (here.age + m)) (first_valid_seconds here.request directive.MinFresh) least (second_false policy.heeds_requests short heeds h) is)
 
-  no_min_fresh : heeded_request_has_min_fresh here ≡ false → policy.heeds_requests ≡ true → first_valid here.request directive.MinFresh ≡ None
+  no_min_fresh : heeded_request_has_min_fresh here ≡ false → policy.heeds_requests ≡ true → first_valid_seconds here.request directive.MinFresh ≡ None
   no_min_fresh h heeds =
-      no_value (first_valid here.request directive.MinFresh) (second_false policy.heeds_requests (is_some (first_valid here.request directive.MinFresh)) heeds h)
+      no_value (first_valid_seconds here.request directive.MinFresh) (second_false policy.heeds_requests (is_some (first_valid_seconds here.request directive.MinFresh)) heeds h)
 
   module _ (none : (rule : ReuseRule) → reuse_rule_condition rule here ≡ false) where
-    sent_fresh : is_fresh_situation here ≡ true → MayBeSentFresh policy e asked now
+    sent_fresh : situation_is_fresh here ≡ true → MayBeSentFresh policy e asked now
     sent_fresh f =
         record {
           is_fresh = below here.age here.lifetime.seconds f;
-          not_to_be_validated = not_to_be_validated (second_false (is_fresh_situation here) (heeded_request_has_no_cache here) f (none RequestNoCache));
-          within_max_age = within_max_age (second_false (is_fresh_situation here) (is_above_max_age_limit here) f (none AboveMaxAge));
-          fresh_for_min_fresh = fresh_for_min_fresh (second_false (is_fresh_situation here) (is_below_min_fresh_of_request here) f (none BelowMinFresh));
+          not_to_be_validated = not_to_be_validated (second_false (situation_is_fresh here) (heeded_request_has_no_cache here) f (none RequestNoCache));
+          within_max_age = within_max_age (second_false (situation_is_fresh here) (is_above_max_age_limit here) f (none AboveMaxAge));
+          fresh_for_min_fresh = fresh_for_min_fresh (second_false (situation_is_fresh here) (is_below_min_fresh_of_request here) f (none BelowMinFresh));
         }
 
-    sent_stale : is_fresh_situation here ≡ false → MayBeSentStale policy e asked now
+    sent_stale : situation_is_fresh here ≡ false → MayBeSentStale policy e asked now
     sent_stale f =
         let must = directive_occurs here.response directive.MustRevalidate in
         let proxy = directive_occurs here.response directive.ProxyRevalidate in
         let shared = directive_occurs here.response directive.SMaxage in
         let limit = max_stale here.request in
         let staleness = here.age - here.lifetime.seconds in
-        let revalidate = under_not (is_fresh_situation here) (forbids_sending_stale here) f (none MustRevalidate) in
+        let revalidate = under_not (situation_is_fresh here) (forbids_sending_stale here) f (none MustRevalidate) in
         let neither_two = left_false (must || proxy) shared revalidate in
         record {
           is_stale = not_below here.age here.lifetime.seconds f;
           no_must_revalidate = left_false must proxy neither_two;
           no_proxy_revalidate = right_false must proxy neither_two;
           no_s_maxage = right_false (must || proxy) shared revalidate;
-          has_a_lifetime = not_false here.lifetime.explicit (under_not (is_fresh_situation here) (not here.lifetime.explicit) f (none NoLifetime));
-          not_to_be_validated = not_to_be_validated (under_not (is_fresh_situation here) (heeded_request_has_no_cache here) f (none StaleNoCache));
-          within_max_stale = takes limit staleness (under_not (is_fresh_situation here) (not (max_stale_is_present limit)) f (none NoMaxStale)) (under_not (is_fresh_situation here) (is_past_max_stale staleness limit) f (none PastMaxStale));
-          within_max_age = within_max_age (under_not (is_fresh_situation here) (is_above_max_age_limit here) f (none StaleMaxAge));
-          no_min_fresh = no_min_fresh (under_not (is_fresh_situation here) (heeded_request_has_min_fresh here) f (none StaleMinFresh));
+          has_a_lifetime = not_false here.lifetime.explicit (under_not (situation_is_fresh here) (not here.lifetime.explicit) f (none NoLifetime));
+          not_to_be_validated = not_to_be_validated (under_not (situation_is_fresh here) (heeded_request_has_no_cache here) f (none StaleNoCache));
+          within_max_stale = takes limit staleness (under_not (situation_is_fresh here) (not (max_stale_is_present limit)) f (none NoMaxStale)) (under_not (situation_is_fresh here) (is_past_max_stale staleness limit) f (none PastMaxStale));
+          within_max_age = within_max_age (under_not (situation_is_fresh here) (is_above_max_age_limit here) f (none StaleMaxAge));
+          no_min_fresh = no_min_fresh (under_not (situation_is_fresh here) (heeded_request_has_min_fresh here) f (none StaleMinFresh));
         }
 
-    sent_somehow : (t : Bool) → is_fresh_situation here ≡ t → MayBeSentFresh policy e asked now ⊎ MayBeSentStale policy e asked now
+    sent_somehow : (t : Bool) → situation_is_fresh here ≡ t → MayBeSentFresh policy e asked now ⊎ MayBeSentStale policy e asked now
     sent_somehow true f = inl (sent_fresh f)
     sent_somehow false f = inr (sent_stale f)
 
@@ -124,54 +124,54 @@ module _ (policy : Policy) (e : Stored) (asked : Asked) (now : ℕ) where
 
   not_above : (policy.heeds_requests ≡ true → ResponseIsWithinMaxAge e asked now) → is_above_max_age_limit here ≡ false
   not_above within =
-      heeded policy.heeds_requests (is_some_and (λ m. nat_lt m here.age) (first_valid here.request directive.MaxAge))
-      (λ heeds. none_tests (λ m. nat_lt m here.age) (first_valid here.request directive.MaxAge) (λ most h. is_not_below most here.age (within heeds most h)))
+      heeded policy.heeds_requests (is_some_and (λ m. nat_lt m here.age) (first_valid_seconds here.request directive.MaxAge))
+      (λ heeds. none_tests (λ m. nat_lt m here.age) (first_valid_seconds here.request directive.MaxAge) (λ most h. is_not_below most here.age (within heeds most h)))
 
   not_short : (policy.heeds_requests ≡ true → ResponseIsFreshForMinFresh policy e asked now) → is_below_min_fresh_of_request here ≡ false
   not_short long =
-      heeded policy.heeds_requests (is_some_and (λ m. nat_lt here.lifetime.seconds (here.age + m)) (first_valid here.request directive.MinFresh))
-      (λ heeds. none_tests (λ m. nat_lt here.lifetime.seconds (here.age + m)) (first_valid here.request directive.MinFresh)
+      heeded policy.heeds_requests (is_some_and (λ m. nat_lt here.lifetime.seconds (here.age + m)) (first_valid_seconds here.request directive.MinFresh))
+      (λ heeds. none_tests (λ m. nat_lt here.lifetime.seconds (here.age + m)) (first_valid_seconds here.request directive.MinFresh)
       (λ least h. is_not_below here.lifetime.seconds (here.age + least) (long heeds least h)))
 
-  not_for_freshness : (policy.heeds_requests ≡ true → first_valid here.request directive.MinFresh ≡ None) → heeded_request_has_min_fresh here ≡ false
-  not_for_freshness absent = heeded policy.heeds_requests (is_some (first_valid here.request directive.MinFresh)) (λ heeds. ap is_some (absent heeds))
+  not_for_freshness : (policy.heeds_requests ≡ true → first_valid_seconds here.request directive.MinFresh ≡ None) → heeded_request_has_min_fresh here ≡ false
+  not_for_freshness absent = heeded policy.heeds_requests (is_some (first_valid_seconds here.request directive.MinFresh)) (λ heeds. ap is_some (absent heeds))
 
-  none_where_fresh : directive_occurs here.response directive.NoCache ≡ false → MayBeSentFresh policy e asked now → is_fresh_situation here ≡ true → (rule : ReuseRule) → reuse_rule_condition rule here ≡ false
+  none_where_fresh : directive_occurs here.response directive.NoCache ≡ false → MayBeSentFresh policy e asked now → situation_is_fresh here ≡ true → (rule : ReuseRule) → reuse_rule_condition rule here ≡ false
   none_where_fresh free sent f ResponseNoCache = free
-  none_where_fresh free sent f RequestNoCache = last_absent (is_fresh_situation here) (heeded_request_has_no_cache here) (not_asked sent.not_to_be_validated)
-  none_where_fresh free sent f AboveMaxAge = last_absent (is_fresh_situation here) (is_above_max_age_limit here) (not_above sent.within_max_age)
-  none_where_fresh free sent f BelowMinFresh = last_absent (is_fresh_situation here) (is_below_min_fresh_of_request here) (not_short sent.fresh_for_min_fresh)
-  none_where_fresh free sent f MustRevalidate = not_first (is_fresh_situation here) (forbids_sending_stale here) f
-  none_where_fresh free sent f NoLifetime = not_first (is_fresh_situation here) (not here.lifetime.explicit) f
-  none_where_fresh free sent f StaleNoCache = not_first (is_fresh_situation here) (heeded_request_has_no_cache here) f
-  none_where_fresh free sent f NoMaxStale = not_first (is_fresh_situation here) (not (max_stale_is_present (max_stale here.request))) f
-  none_where_fresh free sent f PastMaxStale = not_first (is_fresh_situation here) (is_past_max_stale (here.age - here.lifetime.seconds) (max_stale here.request)) f
-  none_where_fresh free sent f StaleMaxAge = not_first (is_fresh_situation here) (is_above_max_age_limit here) f
-  none_where_fresh free sent f StaleMinFresh = not_first (is_fresh_situation here) (heeded_request_has_min_fresh here) f
+  none_where_fresh free sent f RequestNoCache = last_absent (situation_is_fresh here) (heeded_request_has_no_cache here) (not_asked sent.not_to_be_validated)
+  none_where_fresh free sent f AboveMaxAge = last_absent (situation_is_fresh here) (is_above_max_age_limit here) (not_above sent.within_max_age)
+  none_where_fresh free sent f BelowMinFresh = last_absent (situation_is_fresh here) (is_below_min_fresh_of_request here) (not_short sent.fresh_for_min_fresh)
+  none_where_fresh free sent f MustRevalidate = not_first (situation_is_fresh here) (forbids_sending_stale here) f
+  none_where_fresh free sent f NoLifetime = not_first (situation_is_fresh here) (not here.lifetime.explicit) f
+  none_where_fresh free sent f StaleNoCache = not_first (situation_is_fresh here) (heeded_request_has_no_cache here) f
+  none_where_fresh free sent f NoMaxStale = not_first (situation_is_fresh here) (not (max_stale_is_present (max_stale here.request))) f
+  none_where_fresh free sent f PastMaxStale = not_first (situation_is_fresh here) (is_past_max_stale (here.age - here.lifetime.seconds) (max_stale here.request)) f
+  none_where_fresh free sent f StaleMaxAge = not_first (situation_is_fresh here) (is_above_max_age_limit here) f
+  none_where_fresh free sent f StaleMinFresh = not_first (situation_is_fresh here) (heeded_request_has_min_fresh here) f
   none_where_fresh free sent f rule = refl
 
-  none_where_stale : directive_occurs here.response directive.NoCache ≡ false → MayBeSentStale policy e asked now → is_fresh_situation here ≡ false → (rule : ReuseRule) → reuse_rule_condition rule here ≡ false
+  none_where_stale : directive_occurs here.response directive.NoCache ≡ false → MayBeSentStale policy e asked now → situation_is_fresh here ≡ false → (rule : ReuseRule) → reuse_rule_condition rule here ≡ false
   none_where_stale free sent f ResponseNoCache = free
-  none_where_stale free sent f RequestNoCache = first_absent (is_fresh_situation here) (heeded_request_has_no_cache here) f
-  none_where_stale free sent f AboveMaxAge = first_absent (is_fresh_situation here) (is_above_max_age_limit here) f
-  none_where_stale free sent f BelowMinFresh = first_absent (is_fresh_situation here) (is_below_min_fresh_of_request here) f
+  none_where_stale free sent f RequestNoCache = first_absent (situation_is_fresh here) (heeded_request_has_no_cache here) f
+  none_where_stale free sent f AboveMaxAge = first_absent (situation_is_fresh here) (is_above_max_age_limit here) f
+  none_where_stale free sent f BelowMinFresh = first_absent (situation_is_fresh here) (is_below_min_fresh_of_request here) f
   none_where_stale free sent f MustRevalidate =
       let must = directive_occurs here.response directive.MustRevalidate in
       let proxy = directive_occurs here.response directive.ProxyRevalidate in
       let shared = directive_occurs here.response directive.SMaxage in
-      last_absent (not (is_fresh_situation here)) (forbids_sending_stale here)
+      last_absent (not (situation_is_fresh here)) (forbids_sending_stale here)
       (neither (must || proxy) shared (neither must proxy sent.no_must_revalidate sent.no_proxy_revalidate) sent.no_s_maxage)
-  none_where_stale free sent f NoLifetime = last_absent (not (is_fresh_situation here)) (not here.lifetime.explicit) (not_true here.lifetime.explicit sent.has_a_lifetime)
-  none_where_stale free sent f StaleNoCache = last_absent (not (is_fresh_situation here)) (heeded_request_has_no_cache here) (not_asked sent.not_to_be_validated)
+  none_where_stale free sent f NoLifetime = last_absent (not (situation_is_fresh here)) (not here.lifetime.explicit) (not_true here.lifetime.explicit sent.has_a_lifetime)
+  none_where_stale free sent f StaleNoCache = last_absent (not (situation_is_fresh here)) (heeded_request_has_no_cache here) (not_asked sent.not_to_be_validated)
   none_where_stale free sent f NoMaxStale =
       let limit = max_stale here.request in
-      last_absent (not (is_fresh_situation here)) (not (max_stale_is_present limit)) (not_true (max_stale_is_present limit) (accepts_what_it_takes limit (here.age - here.lifetime.seconds) sent.within_max_stale))
+      last_absent (not (situation_is_fresh here)) (not (max_stale_is_present limit)) (not_true (max_stale_is_present limit) (accepts_what_it_takes limit (here.age - here.lifetime.seconds) sent.within_max_stale))
   none_where_stale free sent f PastMaxStale =
       let limit = max_stale here.request in
       let staleness = here.age - here.lifetime.seconds in
-      last_absent (not (is_fresh_situation here)) (is_past_max_stale staleness limit) (not_past_what_it_takes limit staleness sent.within_max_stale)
-  none_where_stale free sent f StaleMaxAge = last_absent (not (is_fresh_situation here)) (is_above_max_age_limit here) (not_above sent.within_max_age)
-  none_where_stale free sent f StaleMinFresh = last_absent (not (is_fresh_situation here)) (heeded_request_has_min_fresh here) (not_for_freshness sent.no_min_fresh)
+      last_absent (not (situation_is_fresh here)) (is_past_max_stale staleness limit) (not_past_what_it_takes limit staleness sent.within_max_stale)
+  none_where_stale free sent f StaleMaxAge = last_absent (not (situation_is_fresh here)) (is_above_max_age_limit here) (not_above sent.within_max_age)
+  none_where_stale free sent f StaleMinFresh = last_absent (not (situation_is_fresh here)) (heeded_request_has_min_fresh here) (not_for_freshness sent.no_min_fresh)
   none_where_stale free sent f rule = refl
 
   none_against : directive_occurs here.response directive.NoCache ≡ false → MayBeSentFresh policy e asked now ⊎ MayBeSentStale policy e asked now → (rule : ReuseRule) → reuse_rule_condition rule here ≡ false
@@ -205,7 +205,7 @@ module _ (policy : Policy) (held : List Stored) (asked : Asked) (now : ℕ) wher
           is_chosen = chosen_is_preferred held asked may.response may.chosen_is;
           request_allows = record { method_allows = method_allows asked.method (may.no_rule Method); no_content = may.no_rule Content; no_range = (λ forwards. second_false policy.forwards_ranges (asks_for_range asked) forwards (may.no_rule Range)); no_precondition = may.no_rule Precondition };
           no_no_cache = none ResponseNoCache;
-          fresh_or_stale = sent_somehow policy may.response asked now none (is_fresh_situation (situation_of_request policy may.response asked now)) refl;
+          fresh_or_stale = sent_somehow policy may.response asked now none (situation_is_fresh (situation_of_request policy may.response asked now)) refl;
         },
         may.serial_is,
       )

@@ -12,7 +12,7 @@ use Rattle.hx_reuse.specs.declared.decision.Decision.TheVariants.{Hit, Forward}
 use Rattle.hx_reuse.specs.declared.rule.ReuseRule.{ReuseRule}
 use Rattle.hx_reuse.specs.declared.rule.ReuseRule.TheVariants.{Operator, UriMiss, VaryMiss, ResponseNoCache, RequestNoCache, AboveMaxAge, BelowMinFresh, MustRevalidate, NoLifetime, StaleNoCache, NoMaxStale, PastMaxStale, StaleMaxAge, StaleMinFresh}
 use Rattle.hx_reuse.specs.Chosen.{entries_of_key, chosen_of, most_preferred_response}
-use Rattle.hx_reuse.specs.Rules.{reuse_rule_condition, situation_of_request, reuse_rule_applies, is_some_and, request_rules, rules_on_chosen, reuse_rule_of, is_rule_on_chosen, decision_by_rule, decision_of}
+use Rattle.hx_reuse.specs.Rules.{reuse_rule_condition, situation_of_request, reuse_rule_applies, is_some_and, request_bypass_rules, rules_on_chosen, least_reuse_rule_of, is_rule_on_chosen, decision_by_rule, decision_of}
 use Rattle.hx_fields.proofs.FirstThat.{IsMember}
 use Rattle.hx_reuse.proofs.Members.{AreSerialsOf, are_serials}
 
@@ -115,10 +115,10 @@ hit o s n h k = rw (h, k) refl
 
 -- where the operator keeps the request from the store
 pub by_operator : (policy : Policy) (held : List Stored) (asked : Asked) (now : ℕ) → policy.caches ≡ false → Forward Operator None ≡ decision_of policy held asked now
-unfolding reuse_rule_of decision_of
+unfolding least_reuse_rule_of decision_of
 by_operator policy held asked now h =
-    forward_low (reuse_rule_of policy held asked now) (option_map (λ e. e.serial) (chosen_of held asked)) Operator
-    (find_head (λ r. reuse_rule_applies r policy held asked now) Operator (request_rules ++ (UriMiss ∷ VaryMiss ∷ rules_on_chosen)) (ap not h)) refl
+    forward_low (least_reuse_rule_of policy held asked now) (option_map (λ e. e.serial) (chosen_of held asked)) Operator
+    (find_head (λ r. reuse_rule_applies r policy held asked now) Operator (request_bypass_rules ++ (UriMiss ∷ VaryMiss ∷ rules_on_chosen)) (ap not h)) refl
 
 -- where the operator doesn't
 module _ (policy : Policy) (caches : policy.caches ≡ true) (held : List Stored) (asked : Asked) (now : ℕ) where
@@ -126,46 +126,46 @@ module _ (policy : Policy) (caches : policy.caches ≡ true) (held : List Stored
   serial_of = option_map (λ e. e.serial) (chosen_of held asked)
 
   -- the operator's rule doesn't stand
-  after_operator : reuse_rule_of policy held asked now ≡ find (λ r. reuse_rule_applies r policy held asked now) (request_rules ++ (UriMiss ∷ VaryMiss ∷ rules_on_chosen))
-  unfolding reuse_rule_of
-  after_operator = find_skip (λ r. reuse_rule_applies r policy held asked now) Operator (request_rules ++ (UriMiss ∷ VaryMiss ∷ rules_on_chosen)) (ap not caches)
+  after_operator : least_reuse_rule_of policy held asked now ≡ find (λ r. reuse_rule_applies r policy held asked now) (request_bypass_rules ++ (UriMiss ∷ VaryMiss ∷ rules_on_chosen))
+  unfolding least_reuse_rule_of
+  after_operator = find_skip (λ r. reuse_rule_applies r policy held asked now) Operator (request_bypass_rules ++ (UriMiss ∷ VaryMiss ∷ rules_on_chosen)) (ap not caches)
 
   -- a rule on the request alone
-  pub by_request : (rule : ReuseRule) → find (λ r. reuse_rule_applies r policy held asked now) request_rules ≡ Some rule → Forward rule None ≡ decision_of policy held asked now
-  unfolding serial_of reuse_rule_of decision_of
+  pub by_request : (rule : ReuseRule) → find (λ r. reuse_rule_applies r policy held asked now) request_bypass_rules ≡ Some rule → Forward rule None ≡ decision_of policy held asked now
+  unfolding serial_of least_reuse_rule_of decision_of
   by_request rule h =
-      forward_low (reuse_rule_of policy held asked now) serial_of rule
-      (after_operator ∙ find_front (λ r. reuse_rule_applies r policy held asked now) request_rules (UriMiss ∷ VaryMiss ∷ rules_on_chosen) rule h)
-      (find_each (λ r. is_rule_on_chosen r ≡ false) (λ r. reuse_rule_applies r policy held asked now) request_rules rule (refl, (refl, (refl, (refl, tt)))) h)
+      forward_low (least_reuse_rule_of policy held asked now) serial_of rule
+      (after_operator ∙ find_front (λ r. reuse_rule_applies r policy held asked now) request_bypass_rules (UriMiss ∷ VaryMiss ∷ rules_on_chosen) rule h)
+      (find_each (λ r. is_rule_on_chosen r ≡ false) (λ r. reuse_rule_applies r policy held asked now) request_bypass_rules rule (refl, (refl, (refl, (refl, tt)))) h)
 
-  module _ (free : find (λ r. reuse_rule_applies r policy held asked now) request_rules ≡ None) where
-    after_request : reuse_rule_of policy held asked now ≡ find (λ r. reuse_rule_applies r policy held asked now) (UriMiss ∷ VaryMiss ∷ rules_on_chosen)
-    unfolding reuse_rule_of
-    after_request = after_operator ∙ find_rest (λ r. reuse_rule_applies r policy held asked now) request_rules (UriMiss ∷ VaryMiss ∷ rules_on_chosen) free
+  module _ (free : find (λ r. reuse_rule_applies r policy held asked now) request_bypass_rules ≡ None) where
+    after_request : least_reuse_rule_of policy held asked now ≡ find (λ r. reuse_rule_applies r policy held asked now) (UriMiss ∷ VaryMiss ∷ rules_on_chosen)
+    unfolding least_reuse_rule_of
+    after_request = after_operator ∙ find_rest (λ r. reuse_rule_applies r policy held asked now) request_bypass_rules (UriMiss ∷ VaryMiss ∷ rules_on_chosen) free
 
     -- no entry of the key
     pub by_uri : entries_of_key held asked ≡ [] → Forward UriMiss None ≡ decision_of policy held asked now
-    unfolding serial_of reuse_rule_of decision_of
+    unfolding serial_of least_reuse_rule_of decision_of
     by_uri h =
-        forward_low (reuse_rule_of policy held asked now) serial_of UriMiss
+        forward_low (least_reuse_rule_of policy held asked now) serial_of UriMiss
         (after_request ∙ find_head (λ r. reuse_rule_applies r policy held asked now) UriMiss (VaryMiss ∷ rules_on_chosen) (ap (λ xs. length xs == 0) h)) refl
 
     module _ (some : (length (entries_of_key held asked) == 0) ≡ false) where
-      after_uri : reuse_rule_of policy held asked now ≡ find (λ r. reuse_rule_applies r policy held asked now) (VaryMiss ∷ rules_on_chosen)
-      unfolding reuse_rule_of
+      after_uri : least_reuse_rule_of policy held asked now ≡ find (λ r. reuse_rule_applies r policy held asked now) (VaryMiss ∷ rules_on_chosen)
+      unfolding least_reuse_rule_of
       after_uri = after_request ∙ find_skip (λ r. reuse_rule_applies r policy held asked now) UriMiss (VaryMiss ∷ rules_on_chosen) some
 
       -- none matches by Vary
       pub by_vary : chosen_of held asked ≡ None → Forward VaryMiss None ≡ decision_of policy held asked now
-      unfolding serial_of reuse_rule_of decision_of
+      unfolding serial_of least_reuse_rule_of decision_of
       by_vary h =
-          forward_low (reuse_rule_of policy held asked now) serial_of VaryMiss
+          forward_low (least_reuse_rule_of policy held asked now) serial_of VaryMiss
           (after_uri ∙ find_head (λ r. reuse_rule_applies r policy held asked now) VaryMiss rules_on_chosen (ap is_none h)) refl
 
       module _ (e : Stored) (is : chosen_of held asked ≡ Some e) where
         -- the rules on the chosen entry
-        by_entry : reuse_rule_of policy held asked now ≡ find (λ r. reuse_rule_condition r (situation_of_request policy e asked now)) rules_on_chosen
-        unfolding reuse_rule_of
+        by_entry : least_reuse_rule_of policy held asked now ≡ find (λ r. reuse_rule_condition r (situation_of_request policy e asked now)) rules_on_chosen
+        unfolding least_reuse_rule_of
         by_entry =
             after_uri ∙ find_skip (λ r. reuse_rule_applies r policy held asked now) VaryMiss rules_on_chosen (ap is_none is)
             ∙ find_same (λ r. reuse_rule_applies r policy held asked now) (λ r. reuse_rule_condition r (situation_of_request policy e asked now)) rules_on_chosen (
@@ -195,13 +195,13 @@ module _ (policy : Policy) (caches : policy.caches ≡ true) (held : List Stored
             at r = ap (is_some_and (λ x. reuse_rule_condition r (situation_of_request policy x asked now))) is
 
         pub by_rule : (rule : ReuseRule) → find (λ r. reuse_rule_condition r (situation_of_request policy e asked now)) rules_on_chosen ≡ Some rule → Forward rule (Some e.serial) ≡ decision_of policy held asked now
-        unfolding serial_of reuse_rule_of decision_of
+        unfolding serial_of least_reuse_rule_of decision_of
         by_rule rule h =
-            forward_high (reuse_rule_of policy held asked now) serial_of rule e.serial (by_entry ∙ h)
+            forward_high (least_reuse_rule_of policy held asked now) serial_of rule e.serial (by_entry ∙ h)
             (find_each (λ r. is_rule_on_chosen r ≡ true) (λ r. reuse_rule_condition r (situation_of_request policy e asked now)) rules_on_chosen rule
             (refl, (refl, (refl, (refl, (refl, (refl, (refl, (refl, (refl, (refl, (refl, tt))))))))))) h)
             (ap (option_map (λ x. x.serial)) is)
 
         pub by_none : find (λ r. reuse_rule_condition r (situation_of_request policy e asked now)) rules_on_chosen ≡ None → Hit e.serial ≡ decision_of policy held asked now
-        unfolding serial_of reuse_rule_of decision_of
-        by_none h = hit (reuse_rule_of policy held asked now) serial_of e.serial (by_entry ∙ h) (ap (option_map (λ x. x.serial)) is)
+        unfolding serial_of least_reuse_rule_of decision_of
+        by_none h = hit (least_reuse_rule_of policy held asked now) serial_of e.serial (by_entry ∙ h) (ap (option_map (λ x. x.serial)) is)

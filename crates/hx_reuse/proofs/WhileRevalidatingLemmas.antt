@@ -4,7 +4,7 @@ use Rattle.std.specs.Prelude.{◌&&◌, ◌||◌, not, nat_lt, nat_le, find, is_
 use Rattle.std.specs.List.{AllByRecursion}
 use Rattle.std.proofs.lemmas.Bool.Decides.{nat_tests}
 use Rattle.hx_directives.specs.Occurrences.{occurrences_of}
-use Rattle.hx_directives.specs.Answers.{directive_occurs, seconds_of_directive, first_valid, max_stale}
+use Rattle.hx_directives.specs.Answers.{directive_occurs, seconds_of_directive, first_valid_seconds, max_stale}
 use Rattle.hx_directives.specs.declared.occurrences.Occurrence.{Occurrence}
 use Rattle.hx_directives.specs.declared.names.Directive.TheVariants as directive
 use Rattle.hx_directives.specs.declared.answers.Seconds.{Seconds}
@@ -15,11 +15,11 @@ use Rattle.hx_policy.specs.Policies.{plain}
 use Rattle.hx_reuse.specs.declared.rule.ReuseRule.{ReuseRule}
 use Rattle.hx_reuse.specs.declared.rule.ReuseRule.TheVariants.{ResponseNoCache, MustRevalidate, NoLifetime, StaleNoCache, PastMaxStale, StaleMaxAge, StaleMinFresh}
 use Rattle.hx_reuse.specs.RuleNames.{reuse_rule_number}
-use Rattle.hx_reuse.specs.Rules.{ReuseSituation, is_some_and, is_fresh_situation, forbids_sending_stale, heeded_request_has_no_cache, is_above_max_age_limit, heeded_request_has_min_fresh, is_past_max_stale, reuse_rule_condition}
+use Rattle.hx_reuse.specs.Rules.{ReuseSituation, is_some_and, situation_is_fresh, forbids_sending_stale, heeded_request_has_no_cache, is_above_max_age_limit, heeded_request_has_min_fresh, is_past_max_stale, reuse_rule_condition}
 use Rattle.hx_reuse.specs.ErrorRules.{seconds_stated_once, situation_of_stored_response}
 use Rattle.hx_reuse.specs.OnError.{staleness_at}
 use Rattle.hx_reuse.specs.Promises.{ResponseForbidsStale}
-use Rattle.hx_reuse.specs.WhileRevalidating.{limit_of_stale_while_revalidate, rules_while_revalidating, situation_allows_stale_while_revalidate, may_be_sent_while_revalidating, ResponseHasStaleWhileRevalidateOf, OperatorGivesStaleWhileRevalidateOf, ResponseMayBeSentWhileRevalidating, policy_without_stale_while_revalidate}
+use Rattle.hx_reuse.specs.WhileRevalidating.{limit_of_stale_while_revalidate, stale_while_revalidate_rules, situation_allows_stale_while_revalidate, may_be_sent_while_revalidating, ResponseHasStaleWhileRevalidateOf, OperatorGivesStaleWhileRevalidateOf, ResponseMayBeSentWhileRevalidating, policy_without_stale_while_revalidate}
 use Rattle.hx_fields.proofs.FirstThat.{IsMember, none_passes}
 use Rattle.hx_fields.proofs.JoinedTests.{never, not_false, not_true, left_false, right_false, neither, last_absent, second_false, under_not, no_value, not_below, is_not_below}
 use Rattle.hx_reuse.proofs.ValueTests.{test_false, none_tests}
@@ -108,25 +108,25 @@ module _ (policy : Policy) (response : Stored) (request : List Occurrence) (now 
 
   module _ (sent : situation_allows_stale_while_revalidate here ≡ true) where
     abbrev rest : Bool
-    rest = is_none (find passes rules_while_revalidating) && is_some_and (λ most. nat_le (staleness_at policy response now) most) (limit_of_stale_while_revalidate here)
+    rest = is_none (find passes stale_while_revalidate_rules) && is_some_and (λ most. nat_le (staleness_at policy response now) most) (limit_of_stale_while_revalidate here)
 
-    lets : (policy.sends_while_revalidating ≡ true) × (not (is_fresh_situation here) && rest ≡ true)
-    lets = both_true policy.sends_while_revalidating (not (is_fresh_situation here) && rest) sent
+    lets : (policy.sends_while_revalidating ≡ true) × (not (situation_is_fresh here) && rest ≡ true)
+    lets = both_true policy.sends_while_revalidating (not (situation_is_fresh here) && rest) sent
 
-    stale : (not (is_fresh_situation here) ≡ true) × (rest ≡ true)
-    stale = both_true (not (is_fresh_situation here)) rest lets.1
+    stale : (not (situation_is_fresh here) ≡ true) × (rest ≡ true)
+    stale = both_true (not (situation_is_fresh here)) rest lets.1
 
-    others : (is_none (find passes rules_while_revalidating) ≡ true) × (is_some_and (λ most. nat_le (staleness_at policy response now) most) (limit_of_stale_while_revalidate here) ≡ true)
-    others = both_true (is_none (find passes rules_while_revalidating)) (is_some_and (λ most. nat_le (staleness_at policy response now) most) (limit_of_stale_while_revalidate here)) stale.1
+    others : (is_none (find passes stale_while_revalidate_rules) ≡ true) × (is_some_and (λ most. nat_le (staleness_at policy response now) most) (limit_of_stale_while_revalidate here) ≡ true)
+    others = both_true (is_none (find passes stale_while_revalidate_rules)) (is_some_and (λ most. nat_le (staleness_at policy response now) most) (limit_of_stale_while_revalidate here)) stale.1
 
-    isnt_fresh : is_fresh_situation here ≡ false
-    isnt_fresh = not_so (is_fresh_situation here) stale.0
+    isnt_fresh : situation_is_fresh here ≡ false
+    isnt_fresh = not_so (situation_is_fresh here) stale.0
 
-    none : (rule : ReuseRule) → IsMember rule rules_while_revalidating → reuse_rule_condition rule here ≡ false
-    none rule m = none_passes reuse_rule_number passes rules_while_revalidating rule (none_of (find passes rules_while_revalidating) others.0) m
+    none : (rule : ReuseRule) → IsMember rule stale_while_revalidate_rules → reuse_rule_condition rule here ≡ false
+    none rule m = none_passes reuse_rule_number passes stale_while_revalidate_rules rule (none_of (find passes stale_while_revalidate_rules) others.0) m
 
     revalidated : forbids_sending_stale here ≡ false
-    revalidated = under_not (is_fresh_situation here) (forbids_sending_stale here) isnt_fresh (none MustRevalidate (inr (inl refl)))
+    revalidated = under_not (situation_is_fresh here) (forbids_sending_stale here) isnt_fresh (none MustRevalidate (inr (inl refl)))
 
     limit : (most : ℕ) × (limit_of_stale_while_revalidate here ≡ Some most) × (nat_le (staleness_at policy response now) most ≡ true)
     limit = passing (λ most. nat_le (staleness_at policy response now) most) (limit_of_stale_while_revalidate here) others.1
@@ -144,16 +144,16 @@ module _ (policy : Policy) (response : Stored) (request : List Occurrence) (now 
           no_must_revalidate = left_false must proxy neither_two;
           no_proxy_revalidate = right_false must proxy neither_two;
           no_s_maxage = right_false (must || proxy) shared revalidated;
-          has_a_lifetime = not_false here.lifetime.explicit (under_not (is_fresh_situation here) (not here.lifetime.explicit) isnt_fresh (none NoLifetime (inr (inr (inl refl)))));
+          has_a_lifetime = not_false here.lifetime.explicit (under_not (situation_is_fresh here) (not here.lifetime.explicit) isnt_fresh (none NoLifetime (inr (inr (inl refl)))));
           not_to_be_validated = λ heeds. second_false policy.heeds_requests (directive_occurs request directive.NoCache) heeds
-              (under_not (is_fresh_situation here) (heeded_request_has_no_cache here) isnt_fresh (none StaleNoCache (inr (inr (inr (inl refl))))));
+              (under_not (situation_is_fresh here) (heeded_request_has_no_cache here) isnt_fresh (none StaleNoCache (inr (inr (inr (inl refl))))));
           within_max_age = λ heeds most is.
-              let over = is_some_and (λ m. nat_lt m here.age) (first_valid request directive.MaxAge) in
-              not_below most here.age (test_false (λ m. nat_lt m here.age) (first_valid request directive.MaxAge) most
-              (second_false policy.heeds_requests over heeds (under_not (is_fresh_situation here) (is_above_max_age_limit here) isnt_fresh (none StaleMaxAge (inr (inr (inr (inr (inr (inl refl))))))))) is);
-          no_min_fresh = λ heeds. no_value (first_valid request directive.MinFresh) (second_false policy.heeds_requests (is_some (first_valid request directive.MinFresh)) heeds
-              (under_not (is_fresh_situation here) (heeded_request_has_min_fresh here) isnt_fresh (none StaleMinFresh (inr (inr (inr (inr (inr (inr (inl refl))))))))));
-          within_max_stale = under_not (is_fresh_situation here) (is_past_max_stale (staleness_at policy response now) (max_stale request)) isnt_fresh (none PastMaxStale (inr (inr (inr (inr (inl refl))))));
+              let over = is_some_and (λ m. nat_lt m here.age) (first_valid_seconds request directive.MaxAge) in
+              not_below most here.age (test_false (λ m. nat_lt m here.age) (first_valid_seconds request directive.MaxAge) most
+              (second_false policy.heeds_requests over heeds (under_not (situation_is_fresh here) (is_above_max_age_limit here) isnt_fresh (none StaleMaxAge (inr (inr (inr (inr (inr (inl refl))))))))) is);
+          no_min_fresh = λ heeds. no_value (first_valid_seconds request directive.MinFresh) (second_false policy.heeds_requests (is_some (first_valid_seconds request directive.MinFresh)) heeds
+              (under_not (situation_is_fresh here) (heeded_request_has_min_fresh here) isnt_fresh (none StaleMinFresh (inr (inr (inr (inr (inr (inr (inl refl))))))))));
+          within_max_stale = under_not (situation_is_fresh here) (is_past_max_stale (staleness_at policy response now) (max_stale request)) isnt_fresh (none PastMaxStale (inr (inr (inr (inr (inl refl))))));
           most = limit.0;
           limit_is = said_by limit.0 limit.1;
           within_limit = within (staleness_at policy response now) limit.0 limit.2;
@@ -170,35 +170,35 @@ module _ (policy : Policy) (response : Stored) (request : List Occurrence) (now 
   heeded false test h = refl
 
   module _ (may : ResponseMayBeSentWhileRevalidating policy response request now) where
-    absent_where_stale : (b : Bool) → b ≡ false → not (is_fresh_situation here) && b ≡ false
-    absent_where_stale b h = last_absent (not (is_fresh_situation here)) b h
+    absent_where_stale : (b : Bool) → b ≡ false → not (situation_is_fresh here) && b ≡ false
+    absent_where_stale b h = last_absent (not (situation_is_fresh here)) b h
 
-    none_is_against : AllByRecursion (λ (rule : ReuseRule). passes rule ≡ false) rules_while_revalidating
+    none_is_against : AllByRecursion (λ (rule : ReuseRule). passes rule ≡ false) stale_while_revalidate_rules
     none_is_against =
         let must = directive_occurs here.response directive.MustRevalidate in
         let proxy = directive_occurs here.response directive.ProxyRevalidate in
         let shared = directive_occurs here.response directive.SMaxage in
-        let stale : not (is_fresh_situation here) && forbids_sending_stale here ≡ false =
+        let stale : not (situation_is_fresh here) && forbids_sending_stale here ≡ false =
         absent_where_stale (forbids_sending_stale here) (neither (must || proxy) shared (neither must proxy may.no_must_revalidate may.no_proxy_revalidate) may.no_s_maxage) in
-        let lasts : not (is_fresh_situation here) && not here.lifetime.explicit ≡ false = absent_where_stale (not here.lifetime.explicit) (not_true here.lifetime.explicit may.has_a_lifetime) in
-        let asks : not (is_fresh_situation here) && heeded_request_has_no_cache here ≡ false =
+        let lasts : not (situation_is_fresh here) && not here.lifetime.explicit ≡ false = absent_where_stale (not here.lifetime.explicit) (not_true here.lifetime.explicit may.has_a_lifetime) in
+        let asks : not (situation_is_fresh here) && heeded_request_has_no_cache here ≡ false =
         absent_where_stale (heeded_request_has_no_cache here) (heeded policy.heeds_requests (directive_occurs request directive.NoCache) may.not_to_be_validated) in
-        let past : not (is_fresh_situation here) && is_past_max_stale (staleness_at policy response now) (max_stale request) ≡ false =
+        let past : not (situation_is_fresh here) && is_past_max_stale (staleness_at policy response now) (max_stale request) ≡ false =
         absent_where_stale (is_past_max_stale (staleness_at policy response now) (max_stale request)) may.within_max_stale in
-        let above : not (is_fresh_situation here) && is_above_max_age_limit here ≡ false =
-        absent_where_stale (is_above_max_age_limit here) (heeded policy.heeds_requests (is_some_and (λ m. nat_lt m here.age) (first_valid request directive.MaxAge))
-        (λ heeds. none_tests (λ m. nat_lt m here.age) (first_valid request directive.MaxAge) (λ most h. is_not_below most here.age (may.within_max_age heeds most h)))) in
-        let wants : not (is_fresh_situation here) && heeded_request_has_min_fresh here ≡ false =
-        absent_where_stale (heeded_request_has_min_fresh here) (heeded policy.heeds_requests (is_some (first_valid request directive.MinFresh)) (λ heeds. ap is_some (may.no_min_fresh heeds))) in
+        let above : not (situation_is_fresh here) && is_above_max_age_limit here ≡ false =
+        absent_where_stale (is_above_max_age_limit here) (heeded policy.heeds_requests (is_some_and (λ m. nat_lt m here.age) (first_valid_seconds request directive.MaxAge))
+        (λ heeds. none_tests (λ m. nat_lt m here.age) (first_valid_seconds request directive.MaxAge) (λ most h. is_not_below most here.age (may.within_max_age heeds most h)))) in
+        let wants : not (situation_is_fresh here) && heeded_request_has_min_fresh here ≡ false =
+        absent_where_stale (heeded_request_has_min_fresh here) (heeded policy.heeds_requests (is_some (first_valid_seconds request directive.MinFresh)) (λ heeds. ap is_some (may.no_min_fresh heeds))) in
         (may.no_no_cache, (stale, (lasts, (asks, (past, (above, (wants, tt)))))))
 
     is_in : situation_allows_stale_while_revalidate here ≡ true
     is_in =
-        let found = is_none (find passes rules_while_revalidating) in
+        let found = is_none (find passes stale_while_revalidate_rules) in
         let limited = is_some_and (λ most. nat_le (staleness_at policy response now) most) (limit_of_stale_while_revalidate here) in
-        and_true policy.sends_while_revalidating (not (is_fresh_situation here) && (found && limited)) may.policy_sends_while_revalidating
-        (and_true (not (is_fresh_situation here)) (found && limited) (is_not_so (is_fresh_situation here) (is_not_below here.age here.lifetime.seconds may.is_stale))
-        (and_true found limited (ap is_none (none_stands passes rules_while_revalidating none_is_against))
+        and_true policy.sends_while_revalidating (not (situation_is_fresh here) && (found && limited)) may.policy_sends_while_revalidating
+        (and_true (not (situation_is_fresh here)) (found && limited) (is_not_so (situation_is_fresh here) (is_not_below here.age here.lifetime.seconds may.is_stale))
+        (and_true found limited (ap is_none (none_stands passes stale_while_revalidate_rules none_is_against))
         (passed (λ most. nat_le (staleness_at policy response now) most) (limit_of_stale_while_revalidate here) may.most (limit_of may.most may.limit_is) (is_within (staleness_at policy response now) may.most may.within_limit))))
 
   pub may_be_sent : ResponseMayBeSentWhileRevalidating policy response request now → may_be_sent_while_revalidating policy response request now ≡ true
@@ -232,7 +232,7 @@ module _ (policy : Policy) (response : Stored) (request : List Occurrence) (now 
   pub stated_stays : occurs ≡ true → may_be_sent_while_revalidating policy response request now ≡ may_be_sent_while_revalidating (policy_without_stale_while_revalidate policy) response request now
   unfolding may_be_sent_while_revalidating
   stated_stays says =
-      ap (λ (o : Option ℕ). policy.sends_while_revalidating && (not (is_fresh_situation here) && (is_none (find passes rules_while_revalidating) && is_some_and (λ most. nat_le (staleness_at policy response now) most) o)))
+      ap (λ (o : Option ℕ). policy.sends_while_revalidating && (not (situation_is_fresh here) && (is_none (find passes stale_while_revalidate_rules) && is_some_and (λ most. nat_le (staleness_at policy response now) most) o)))
       (ap (λ t. cond t stated policy.stale_while_revalidate) says ∙ sym (ap (λ t. cond t stated None) says))
 
 pub plain_sends_nothing : (caches : Bool) (response : Stored) (request : List Occurrence) (now : ℕ) → may_be_sent_while_revalidating (plain caches) response request now ≡ false

@@ -15,8 +15,8 @@ use Rattle.hx_policy.specs.Policies.{plain}
 abbrev pub cache_control_fields : List ℕ → List Field
 cache_control_fields value = line (codes "Cache-Control") value ∷ []
 
-abbrev pub accept_language : List ℕ → Field
-accept_language value = line (codes "Accept-Language") value
+abbrev pub accept_language_line : List ℕ → Field
+accept_language_line value = line (codes "Accept-Language") value
 
 abbrev pub key_of_path_a : Key
 key_of_path_a = record { host = codes "h"; port = 80; path_query = codes "/a" }
@@ -34,7 +34,7 @@ get_a_with fields = record {
 
 -- a GET of /b in German
 abbrev pub get_b_in_german : Asked
-get_b_in_german = record (get_a_with (accept_language (codes "de") ∷ [])) {
+get_b_in_german = record (get_a_with (accept_language_line (codes "de") ∷ [])) {
   target = record { key = record { host = codes "h"; port = 80; path_query = codes "/b" }; table_path = codes "/b" };
 }
 
@@ -50,8 +50,8 @@ get_a_with_content content fields = record {
 }
 
 -- what answered a request with these lines, made, asked for and received at a moment
-abbrev pub stored_at : ℕ → List Field → List Field → Stored
-stored_at moment request fields = record {
+abbrev pub example_response_stored_at : ℕ → List Field → List Field → Stored
+example_response_stored_at moment request fields = record {
   serial = 1;
   key = key_of_path_a;
   nominated = nominated_values_of fields request;
@@ -63,7 +63,7 @@ stored_at moment request fields = record {
 
 -- the one response that is held, stored at 0, with one Cache-Control line
 abbrev pub stored_with_cache_control : List ℕ → Stored
-stored_with_cache_control value = stored_at 0 [] (cache_control_fields value)
+stored_with_cache_control value = example_response_stored_at 0 [] (cache_control_fields value)
 
 -- the same once a purge expired it
 abbrev pub purged_at : ℕ → Stored → Stored
@@ -74,17 +74,19 @@ one_held_with_cache_control value = stored_with_cache_control value ∷ []
 
 -- the one response that is held, of a minute, in German
 abbrev pub one_held_in_german : List Stored
-one_held_in_german = stored_at 0 (accept_language (codes "de") ∷ []) (line (codes "Vary") (codes "Accept-Language")
+one_held_in_german = example_response_stored_at 0 (accept_language_line (codes "de") ∷ []) (line (codes "Vary") (codes "Accept-Language")
     ∷ cache_control_fields (codes "max-age=60")) ∷ []
 
 -- what answered a request in this language, made at a moment, of a minute, with a Vary that names the language; and
 -- what answers in any, without a Vary
 abbrev pub language_variant_made_at : ℕ → ℕ → List ℕ → Stored
-language_variant_made_at moment serial language = record (stored_at moment (accept_language language ∷ [])
+language_variant_made_at moment serial language = record
+    (example_response_stored_at moment (accept_language_line language ∷ [])
     (line (codes "Vary") (codes "Accept-Language") ∷ cache_control_fields (codes "max-age=60"))) { serial = serial }
 
 abbrev pub no_vary_made_at : ℕ → ℕ → Stored
-no_vary_made_at moment serial = record (stored_at moment [] (cache_control_fields (codes "max-age=60"))) { serial = serial }
+no_vary_made_at moment serial = record
+    (example_response_stored_at moment [] (cache_control_fields (codes "max-age=60"))) { serial = serial }
 
 -- an answer in English was stored at 100 as 1, and at 110 the default as 2
 abbrev pub held_english_and_default : List Stored
@@ -92,11 +94,11 @@ held_english_and_default = no_vary_made_at 110 2 ∷ language_variant_made_at 10
 
 -- a GET of /a in this language
 abbrev pub get_a_in_this_language : List ℕ → Asked
-get_a_in_this_language language = get_a_with (accept_language language ∷ [])
+get_a_in_this_language language = get_a_with (accept_language_line language ∷ [])
 
 -- the one response that is held, with an entity tag alone
 abbrev pub one_held_with_etag : List Field → List Stored
-one_held_with_etag more = stored_at 0 [] (line (codes "ETag") (codes "\"e\"") ∷ more) ∷ []
+one_held_with_etag more = example_response_stored_at 0 [] (line (codes "ETag") (codes "\"e\"") ∷ more) ∷ []
 
 -- the directives of a request with one Cache-Control line
 abbrev pub request_directives : List ℕ → List Occurrence
@@ -147,7 +149,7 @@ get_a_if_none_match fields = get_a_with (line (codes "If-None-Match") (codes "\"
 
 -- what is stored at 0 with these lines, of another status
 abbrev pub stored_with_status : ℕ → List Field → Stored
-stored_with_status status fields = record (stored_at 0 [] fields) { status = status }
+stored_with_status status fields = record (example_response_stored_at 0 [] fields) { status = status }
 
 -- the one response that is held, of a status, without lines
 abbrev pub one_held_of_status : ℕ → List Stored

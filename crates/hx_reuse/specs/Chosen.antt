@@ -10,7 +10,7 @@
 use Rattle.std.specs.Prelude.{◌==◌, nat_lt, if◌then◌else◌, Bool, true, false, not, ◌&&◌, ◌||◌}
 use Rattle.std.specs.Prelude.{List, filter, Option, Some, None, fold}
 use Rattle.hx_target.specs.Keys.{same_key}
-use Rattle.hx_vary.specs.Vary.{vary_matches, nominates_a_field}
+use Rattle.hx_vary.specs.Vary.{vary_matches, nominates_any_field}
 use Rattle.hx_hop.specs.declared.request_view.Asked.{Asked}
 use Rattle.hx_store.specs.Stored.{Stored}
 
@@ -23,7 +23,7 @@ entries_that_match held asked = filter (λ e. vary_matches e.nominated asked.fie
 -- a field of its request selected it: its Vary names one
 -- own: a Vary that names none counts as none
 abbrev pub nominates : Stored → Bool
-nominates e = nominates_a_field e.nominated
+nominates e = nominates_any_field e.nominated
 
 -- the first has a later Date
 -- own: of two with one Date the greater serial is taken, so that a run has one outcome

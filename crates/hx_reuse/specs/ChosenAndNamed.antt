@@ -14,7 +14,7 @@ use Rattle.hx_hop.specs.declared.request_view.Asked.{Asked}
 use Rattle.hx_store.specs.Stored.{Stored}
 use Rattle.hx_policy.specs.declared.words.Policy.{Policy}
 use Rattle.hx_store.specs.Serials.{SerialsAreDistinct}
-use Rattle.hx_store.specs.Shelf.{serials, find_entry}
+use Rattle.hx_store.specs.Shelf.{serials, find_entry_of_serial}
 use Rattle.hx_reuse.specs.Chosen.{nominates, is_preferred_over, chosen_of}
 use Rattle.hx_reuse.specs.RuleNames.{reuse_rule_number, reuse_rule_reason, reuse_rule_detail, error_rule_word}
 use Rattle.hx_reuse.specs.Rules.{reuse_rule_applies, is_rule_on_chosen, decision_of}
@@ -72,8 +72,8 @@ ChosenHasAVaryWhereOneHas = (held : List Stored) (asked : Asked) (response other
 
 -- of those with a Vary, and of those without, "the most recent one (as determined by the Date header field)"
 -- (RFC 9111, section 4); own: of one Date the greater serial
-abbrev pub ChosenIsLatestByDate : Type 0
-ChosenIsLatestByDate = (held : List Stored) (asked : Asked) (response other : Stored) →
+abbrev pub ChosenIsLatestOfThoseAlikeInVary : Type 0
+ChosenIsLatestOfThoseAlikeInVary = (held : List Stored) (asked : Asked) (response other : Stored) →
     chosen_of held asked ≡ Some response → ResponseMatchesRequest held asked other → nominates other
     ≡ nominates response →
     (other.times.date ≤ response.times.date) × (other.times.date ≡ response.times.date → other.serial ≤ response.serial)
@@ -105,7 +105,7 @@ AHitIsAStoredResponse = (policy : Policy) (held : List Stored) (asked : Asked) (
 abbrev pub AHitIsFoundInTheStore : Type 0
 AHitIsFoundInTheStore = (policy : Policy) (held : List Stored) (asked : Asked) (now serial : ℕ) →
     SerialsAreDistinct (serials held) → decision_of policy held asked now ≡ Hit serial
-    → find_entry serial held ≡ chosen_of held asked
+    → find_entry_of_serial serial held ≡ chosen_of held asked
 
 abbrev pub LeastReuseRuleIsNamed : Type 0
 LeastReuseRuleIsNamed = (policy : Policy) (held : List Stored) (asked : Asked) (now : ℕ) (rule : ReuseRule)

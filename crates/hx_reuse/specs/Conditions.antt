@@ -6,7 +6,7 @@
 use Rattle.std.specs.Prelude.{◌≡◌, Bool, true, false, not, ◌&&◌, ◌||◌, codes, bytes_eq}
 use Rattle.hx_fields.specs.FieldLines.{has_field}
 use Rattle.hx_hop.specs.declared.request_view.Asked.{Asked}
-use Rattle.hx_hop.specs.Bypass.{request_has_content, asks_for_range, has_precondition}
+use Rattle.hx_hop.specs.Bypass.{request_has_content, asks_for_range, has_precondition_for_origin}
 use Rattle.hx_policy.specs.Policies.{plain}
 use Rattle.hx_policy.specs.declared.words.Policy.{Policy}
 use Rattle.hx_reuse.specs.Reusable.{RequestIsForTheCache}
@@ -20,7 +20,7 @@ withholds_conditions policy asked =
     && (policy.caches
     && (bytes_eq asked.method (codes "GET")
     && not (request_has_content asked
-    || ((not policy.fills_ranges && asks_for_range asked) || has_precondition asked))))
+    || ((not policy.fills_ranges && asks_for_range asked) || has_precondition_for_origin asked))))
 
 -- one that the request has goes forward, where the proxy sends none of its own in its place
 abbrev pub forwards_client_condition : Policy → Asked → Bool

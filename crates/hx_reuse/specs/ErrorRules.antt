@@ -2,16 +2,18 @@
 -- 504 or the want of an answer (RFC 5861, section 4), and which is the first. They are asked of the
 -- chosen response, where no rule stands that asks of the request alone.
 --
--- stale_limit_of_response, stale_limit_of_request, stale_limit_of_operator: the staleness that stale-if-error allows
+-- stale_if_error_limit_of_response, request_stale_if_error_limit, operator_stale_if_error_limit: the staleness that
+-- stale-if-error allows
 -- is_stale_beyond_limit: a response is staler
 -- error_rule_condition: the condition of each rule
 -- error_rules: the rules by their numbers
--- error_rule_on: the least that stands against a response                    error_rule_of: against the chosen one
+-- error_rule_against: the least that stands against a response                    least_error_rule_of: against the
+-- chosen one
 -- permission_on_error: none stands, or the least that does
 use Rattle.std.specs.Prelude.{ℕ, nat_lt, if◌then◌else◌, Bool, not, ◌&&◌, ◌||◌, List, [], ◌∷◌, find, Option, Some, None}
 use Rattle.std.specs.Prelude.{is_none, option_and_then, Result, Ok, Err}
 use Rattle.hx_directives.specs.Occurrences.{occurrences_of}
-use Rattle.hx_directives.specs.Answers.{directive_occurs, seconds_of_directive, first_valid}
+use Rattle.hx_directives.specs.Answers.{directive_occurs, seconds_of_directive, first_valid_seconds}
 use Rattle.hx_directives.specs.declared.occurrences.Occurrence.{Occurrence}
 use Rattle.hx_directives.specs.declared.names.Directive.TheVariants as directive
 use Rattle.hx_directives.specs.declared.answers.Seconds.{Seconds}
@@ -35,16 +37,16 @@ seconds_stated_once _ = None
 
 -- the staleness that a response allows: "any request applicable to the cached response" (RFC 5861, section 4)
 -- own: one that stands twice or can't be read allows none
-abbrev pub stale_limit_of_response : ReuseSituation → Option ℕ
-stale_limit_of_response s = seconds_stated_once (seconds_of_directive s.response directive.StaleIfError)
+abbrev pub stale_if_error_limit_of_response : ReuseSituation → Option ℕ
+stale_if_error_limit_of_response s = seconds_stated_once (seconds_of_directive s.response directive.StaleIfError)
 
 -- the staleness that a request allows: "the request it appears in" (RFC 5861, section 4)
-abbrev pub stale_limit_of_request : ReuseSituation → Option ℕ
-stale_limit_of_request s = first_valid s.request directive.StaleIfError
+abbrev pub request_stale_if_error_limit : ReuseSituation → Option ℕ
+request_stale_if_error_limit s = first_valid_seconds s.request directive.StaleIfError
 
 -- own: the staleness that the operator's line allows, where neither has a stale-if-error, be it one that can't be read
-abbrev pub stale_limit_of_operator : ReuseSituation → Option ℕ
-stale_limit_of_operator s =
+abbrev pub operator_stale_if_error_limit : ReuseSituation → Option ℕ
+operator_stale_if_error_limit s =
     if directive_occurs s.response directive.StaleIfError || directive_occurs s.request directive.StaleIfError then None
     else s.policy.stale_if_error
 
@@ -64,11 +66,13 @@ error_rule_condition NoLifetime s = not s.lifetime.explicit
 error_rule_condition RequestNoCache s = heeded_request_has_no_cache s
 -- RFC 5861, section 4; own: the operator's limit stands for one that nobody states
 error_rule_condition NoDirective s =
-    (is_none (stale_limit_of_response s) && is_none (stale_limit_of_request s)) && is_none (stale_limit_of_operator s)
+    (is_none (stale_if_error_limit_of_response s) && is_none (request_stale_if_error_limit s))
+    && is_none (operator_stale_if_error_limit s)
 -- RFC 5861, section 4; own: where both the response and the request state a limit, each of them counts
-error_rule_condition TooStale s = (is_stale_beyond_limit s (stale_limit_of_response s) || is_stale_beyond_limit s
-    (stale_limit_of_request s))
-    || is_stale_beyond_limit s (stale_limit_of_operator s)
+error_rule_condition TooStale s =
+    (is_stale_beyond_limit s (stale_if_error_limit_of_response s) || is_stale_beyond_limit s
+    (request_stale_if_error_limit s))
+    || is_stale_beyond_limit s (operator_stale_if_error_limit s)
 
 -- the rules by their numbers
 abbrev pub error_rules : List ErrorRule
@@ -81,15 +85,15 @@ situation_of_stored_response policy response request now =
     (occurrences_of response.fields) request
 
 -- the least rule that stands against sending this response, by the directives of a request
-unfoldable pub error_rule_on : Policy → Stored → List Occurrence → ℕ → Option ErrorRule
-error_rule_on policy response request now =
+unfoldable pub error_rule_against : Policy → Stored → List Occurrence → ℕ → Option ErrorRule
+error_rule_against policy response request now =
     find (λ rule. error_rule_condition rule (situation_of_stored_response policy response request now)) error_rules
 
 -- the least rule that stands against sending the response that is chosen for a request; where none
 -- is chosen a reuse rule stands that keeps this from being asked, and the answer says nothing
-abbrev pub error_rule_of : Policy → List Stored → Asked → ℕ → Option ErrorRule
-error_rule_of policy held asked now =
-    option_and_then (λ e. error_rule_on policy e (occurrences_of asked.fields) now) (chosen_of held asked)
+abbrev pub least_error_rule_of : Policy → List Stored → Asked → ℕ → Option ErrorRule
+least_error_rule_of policy held asked now =
+    option_and_then (λ e. error_rule_against policy e (occurrences_of asked.fields) now) (chosen_of held asked)
 
 -- none stands, or the least that does
 abbrev pub permission_from_error_rule : Option ErrorRule → Result (Unit {0}) ErrorRule
@@ -97,4 +101,5 @@ permission_from_error_rule None = Ok tt
 permission_from_error_rule (Some rule) = Err rule
 
 abbrev pub permission_on_error : Policy → Stored → List Occurrence → ℕ → Result (Unit {0}) ErrorRule
-permission_on_error policy response request now = permission_from_error_rule (error_rule_on policy response request now)
+permission_on_error policy response request now = permission_from_error_rule
+    (error_rule_against policy response request now)

@@ -3,13 +3,13 @@
 --
 -- fetches_whole_for_range: it is so              forwards_range: the range goes to the origin
 -- request_without_range: the request for the whole
--- request_sent_to_origin: what goes to the origin, before the proxy's own lines
+-- request_without_filled_range: what goes to the origin, before the proxy's own lines
 -- Below it are the statements that the law `a_range_fetches_the_whole` proves.
 use Rattle.std.specs.Prelude.{◌≡◌, ℕ, Bool, true, false, not, ◌&&◌, ◌||◌, cond, List, codes, bytes_eq}
 use Rattle.hx_fields.specs.FieldLines.{has_field, values_of, without_named}
 use Rattle.hx_fields.specs.Names.{is_same_name}
 use Rattle.hx_hop.specs.declared.request_view.Asked.{Asked}
-use Rattle.hx_hop.specs.Bypass.{request_has_content, asks_for_range, has_precondition}
+use Rattle.hx_hop.specs.Bypass.{request_has_content, asks_for_range, has_precondition_for_origin}
 use Rattle.hx_policy.specs.Policies.{plain}
 use Rattle.hx_policy.specs.declared.words.Policy.{Policy}
 use Rattle.hx_reuse.specs.Conditions.{withholds_conditions}
@@ -21,7 +21,7 @@ fetches_whole_for_range policy asked =
     policy.fills_ranges
     && (policy.caches
     && (bytes_eq asked.method (codes "GET")
-    && (asks_for_range asked && not (request_has_content asked || has_precondition asked))))
+    && (asks_for_range asked && not (request_has_content asked || has_precondition_for_origin asked))))
 
 -- one that the request has goes forward
 abbrev pub forwards_range : Policy → Asked → Bool
@@ -33,8 +33,9 @@ abbrev pub request_without_range : Asked → Asked
 request_without_range asked =
     record asked { fields = without_named (without_named asked.fields (codes "Range")) (codes "If-Range") }
 
-abbrev pub request_sent_to_origin : Policy → Asked → Asked
-request_sent_to_origin policy asked = cond (fetches_whole_for_range policy asked) (request_without_range asked) asked
+abbrev pub request_without_filled_range : Policy → Asked → Asked
+request_without_filled_range policy asked =
+    cond (fetches_whole_for_range policy asked) (request_without_range asked) asked
 
 -- ---- the statements
 
@@ -57,14 +58,14 @@ DefaultPolicyFetchesNoWholeForRange = (caches : Bool) (asked : Asked) → fetche
 -- where it is filled, neither Range nor If-Range goes to the origin
 abbrev pub WholeIsFetchedWithoutRange : Type 0
 WholeIsFetchedWithoutRange = (policy : Policy) (asked : Asked) → fetches_whole_for_range policy asked ≡ true →
-    (has_field (request_sent_to_origin policy asked).fields (codes "Range") ≡ false)
-    × (has_field (request_sent_to_origin policy asked).fields (codes "If-Range") ≡ false)
+    (has_field (request_without_filled_range policy asked).fields (codes "Range") ≡ false)
+    × (has_field (request_without_filled_range policy asked).fields (codes "If-Range") ≡ false)
 
 -- and the lines of each other name do, as they are; else the request goes as it is
 abbrev pub FieldsButRangeAreForwardedUnchanged : Type 0
 FieldsButRangeAreForwardedUnchanged = (policy : Policy) (asked : Asked) (name : List ℕ) →
     is_same_name name (codes "Range") ≡ false → is_same_name name (codes "If-Range") ≡ false
-    → values_of (request_sent_to_origin policy asked).fields name ≡ values_of asked.fields name
+    → values_of (request_without_filled_range policy asked).fields name ≡ values_of asked.fields name
 
 -- the client's conditions stay where those of the request for the whole would
 abbrev pub FilledRangeConditionsAreAsForTheWhole : Type 0

@@ -9,7 +9,7 @@ use Rattle.hx_fields.specs.Line.{Field}
 use Rattle.hx_directives.specs.Seconds.{capped}
 use Rattle.hx_age.specs.declared.lifetimes.Lifetime.{Lifetime}
 use Rattle.hx_age.specs.Lifetime.{lifetime_of}
-use Rattle.hx_age.specs.Age.{lifetime_ended_by_purge}
+use Rattle.hx_age.specs.Age.{lifetime_shortened_by_purge}
 use Rattle.hx_store.specs.Stored.{Stored}
 use Rattle.hx_policy.specs.declared.words.Policy.{Policy}
 use Rattle.hx_policy.specs.Policies.{lifetime_given_by_policy}
@@ -34,4 +34,5 @@ lifetime_under_policy policy status fields =
 
 -- own: a response that a purge expired counts from then on as one whose lifetime is over ("A purge that expires")
 abbrev pub lifetime_of_stored_response : Policy → Stored → Lifetime
-lifetime_of_stored_response policy e = lifetime_ended_by_purge e.times (lifetime_under_policy policy e.status e.fields)
+lifetime_of_stored_response policy e =
+    lifetime_shortened_by_purge e.times (lifetime_under_policy policy e.status e.fields)

@@ -13,14 +13,14 @@ use Rattle.hx_directives.specs.declared.occurrences.Occurrence.{Occurrence}
 use Rattle.hx_directives.specs.declared.names.Directive.TheVariants.{StaleIfError}
 use Rattle.hx_age.specs.Lifetime.{lifetime_of}
 use Rattle.hx_hop.specs.declared.request_view.Asked.{Asked}
-use Rattle.hx_hop.specs.Bypass.{request_has_content, asks_for_range, has_precondition}
+use Rattle.hx_hop.specs.Bypass.{request_has_content, asks_for_range, has_precondition_for_origin}
 use Rattle.hx_store.specs.Stored.{Stored}
 use Rattle.hx_policy.specs.declared.words.Policy.{Policy}
 use Rattle.hx_policy.specs.Policies.{is_heuristic_status}
 use Rattle.hx_reuse.specs.Chosen.{chosen_of}
 use Rattle.hx_reuse.specs.Lifetimes.{lifetime_under_policy}
 use Rattle.hx_reuse.specs.Rules.{ReuseSituation, reuse_rule_condition, decision_of}
-use Rattle.hx_reuse.specs.ErrorRules.{error_rule_condition, situation_of_stored_response, error_rule_on}
+use Rattle.hx_reuse.specs.ErrorRules.{error_rule_condition, situation_of_stored_response, error_rule_against}
 use Rattle.hx_reuse.specs.OnError.{staleness_at}
 use Rattle.hx_reuse.specs.declared.rule.ReuseRule.{ReuseRule}
 use Rattle.hx_reuse.specs.declared.rule.ReuseRule.TheVariants.{Operator, Method, Content, Range, Precondition, UriMiss}
@@ -120,7 +120,7 @@ pub record RequestsDifferOnlyInIgnoredDirectives (held : List Stored) (asked oth
   pub same_method : asked.method ≡ other.method
   pub same_content : request_has_content asked ≡ request_has_content other
   pub same_range : asks_for_range asked ≡ asks_for_range other
-  pub same_precondition : has_precondition asked ≡ has_precondition other
+  pub same_precondition : has_precondition_for_origin asked ≡ has_precondition_for_origin other
   pub same_chosen_response : chosen_of held asked ≡ chosen_of held other
   pub same_max_stale : max_stale (occurrences_of asked.fields) ≡ max_stale (occurrences_of other.fields)
 
@@ -133,20 +133,22 @@ IgnoredRequestDirectivesDecideNothing = (policy : Policy) (held : List Stored) (
 -- ---- a staleness after an error
 
 -- neither the response nor the request has a stale-if-error, be it one that can't be read
-pub record HasNoStaleIfError (response : Stored) (request : List Occurrence) : Type 0 where
+pub record NeitherHasStaleIfError (response : Stored) (request : List Occurrence) : Type 0 where
   pub response_has_none : directive_occurs (occurrences_of response.fields) StaleIfError ≡ false
   pub request_has_none : directive_occurs request StaleIfError ≡ false
 
 -- the operator's then counts: up to it neither rule on a limit stands, and past it TooStale does (RFC 5861, section 4)
 abbrev pub OperatorsStaleIfErrorAllows : Type 0
 OperatorsStaleIfErrorAllows = (policy : Policy) (response : Stored) (request : List Occurrence) (now most : ℕ) →
-    HasNoStaleIfError response request → policy.stale_if_error ≡ Some most → staleness_at policy response now ≤ most →
+    NeitherHasStaleIfError response request → policy.stale_if_error ≡ Some most
+    → staleness_at policy response now ≤ most →
     (error_rule_condition on_error.NoDirective (situation_of_stored_response policy response request now) ≡ false)
     × (error_rule_condition on_error.TooStale (situation_of_stored_response policy response request now) ≡ false)
 
 abbrev pub OperatorsStaleIfErrorEnds : Type 0
 OperatorsStaleIfErrorEnds = (policy : Policy) (response : Stored) (request : List Occurrence) (now most : ℕ) →
-    HasNoStaleIfError response request → policy.stale_if_error ≡ Some most → most < staleness_at policy response now →
+    NeitherHasStaleIfError response request → policy.stale_if_error ≡ Some most
+    → most < staleness_at policy response now →
     error_rule_condition on_error.TooStale (situation_of_stored_response policy response request now) ≡ true
 
 abbrev pub policy_without_stale_if_error : Policy → Policy
@@ -157,5 +159,5 @@ abbrev pub StatedStaleIfErrorOverridesOperators : Type 0
 StatedStaleIfErrorOverridesOperators = (policy : Policy) (response : Stored) (request : List Occurrence) (now : ℕ) →
     (directive_occurs (occurrences_of response.fields) StaleIfError ≡ true) ⊎ (directive_occurs request StaleIfError
     ≡ true) →
-    error_rule_on policy response request now
-    ≡ error_rule_on (policy_without_stale_if_error policy) response request now
+    error_rule_against policy response request now
+    ≡ error_rule_against (policy_without_stale_if_error policy) response request now

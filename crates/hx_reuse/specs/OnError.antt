@@ -8,7 +8,7 @@
 -- Below them are the statements that the laws of `src/laws.rt` prove.
 use Rattle.std.specs.Prelude.{◌≡◌, ℕ, ◌-◌, ◌<◌, ◌≤◌, ◌⊎◌, true, false, List, Some, None}
 use Rattle.hx_directives.specs.Occurrences.{occurrences_of}
-use Rattle.hx_directives.specs.Answers.{directive_occurs, seconds_of_directive, first_valid}
+use Rattle.hx_directives.specs.Answers.{directive_occurs, seconds_of_directive, first_valid_seconds}
 use Rattle.hx_directives.specs.declared.occurrences.Occurrence.{Occurrence}
 use Rattle.hx_directives.specs.declared.names.Directive.TheVariants.{NoCache, MustRevalidate, ProxyRevalidate, SMaxage}
 use Rattle.hx_directives.specs.declared.names.Directive.TheVariants.{StaleIfError}
@@ -18,7 +18,7 @@ use Rattle.hx_store.specs.Stored.{Stored}
 use Rattle.hx_policy.specs.declared.words.Policy.{Policy}
 use Rattle.hx_reuse.specs.Lifetimes.{lifetime_of_stored_response}
 use Rattle.hx_reuse.specs.RuleNames.{error_rule_number}
-use Rattle.hx_reuse.specs.ErrorRules.{situation_of_stored_response, error_rule_condition, error_rule_on}
+use Rattle.hx_reuse.specs.ErrorRules.{situation_of_stored_response, error_rule_condition, error_rule_against}
 use Rattle.hx_reuse.specs.declared.rule.ErrorRule.{ErrorRule}
 
 -- the response has one stale-if-error, of so many seconds
@@ -28,7 +28,7 @@ ResponseHasStaleIfErrorOf response most = seconds_of_directive (occurrences_of r
 
 -- the request's first valid stale-if-error has so many seconds
 abbrev pub RequestHasStaleIfErrorOf : List Occurrence → ℕ → Type 0
-RequestHasStaleIfErrorOf request most = first_valid request StaleIfError ≡ Some most
+RequestHasStaleIfErrorOf request most = first_valid_seconds request StaleIfError ≡ Some most
 
 -- own: the operator's line has so many seconds, and neither the response nor the request has a stale-if-error
 pub record OperatorGivesStaleIfErrorOf (policy : Policy) (response : Stored) (request : List Occurrence)
@@ -71,18 +71,18 @@ pub record IsLeastErrorRule (policy : Policy) (response : Stored) (request : Lis
 
 abbrev pub SendableResponseIsSentOnError : Type 0
 SendableResponseIsSentOnError = (policy : Policy) (response : Stored) (request : List Occurrence) (now : ℕ) →
-    ResponseMayBeSentOnError policy response request now → error_rule_on policy response request now ≡ None
+    ResponseMayBeSentOnError policy response request now → error_rule_against policy response request now ≡ None
 
 abbrev pub OnlySendableResponseIsSentOnError : Type 0
 OnlySendableResponseIsSentOnError = (policy : Policy) (response : Stored) (request : List Occurrence) (now : ℕ) →
-    error_rule_on policy response request now ≡ None → ResponseMayBeSentOnError policy response request now
+    error_rule_against policy response request now ≡ None → ResponseMayBeSentOnError policy response request now
 
 abbrev pub NamedErrorRuleIsLeast : Type 0
 NamedErrorRuleIsLeast = (policy : Policy) (response : Stored) (request : List Occurrence) (now : ℕ)
     (least : ErrorRule) →
-    error_rule_on policy response request now ≡ Some least → IsLeastErrorRule policy response request now least
+    error_rule_against policy response request now ≡ Some least → IsLeastErrorRule policy response request now least
 
-abbrev pub LeastErrorRuleIsNamed : Type 0
-LeastErrorRuleIsNamed =
+abbrev pub ErrorRuleThatIsLeastIsNamed : Type 0
+ErrorRuleThatIsLeastIsNamed =
     (policy : Policy) (response : Stored) (request : List Occurrence) (now : ℕ) (least : ErrorRule) →
-    IsLeastErrorRule policy response request now least → error_rule_on policy response request now ≡ Some least
+    IsLeastErrorRule policy response request now least → error_rule_against policy response request now ≡ Some least

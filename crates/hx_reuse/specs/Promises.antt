@@ -23,7 +23,7 @@ use Rattle.hx_store.specs.Serials.{SerialsAreDistinct}
 use Rattle.hx_store.specs.Shelf.{serials}
 use Rattle.hx_reuse.specs.Lifetimes.{lifetime_of_stored_response, lifetime_under_policy}
 use Rattle.hx_reuse.specs.Rules.{decision_of}
-use Rattle.hx_reuse.specs.ErrorRules.{error_rule_on}
+use Rattle.hx_reuse.specs.ErrorRules.{error_rule_against}
 use Rattle.hx_reuse.specs.Reusable.{MayBeSentStale}
 use Rattle.hx_reuse.specs.declared.decision.Decision.TheVariants.{Hit}
 
@@ -68,8 +68,8 @@ StaleForbiddenHitIsFresh = (policy : Policy) (held : List Stored) (asked : Asked
     → age_of response.times now < (lifetime_of_stored_response policy response).seconds
 
 -- and where it states its lifetime no word of the operator's line lengthens that
-abbrev pub StaleForbiddenHitIsWithinLifetime : Type 0
-StaleForbiddenHitIsWithinLifetime =
+abbrev pub StaleForbiddenHitIsWithinItsOwnLifetime : Type 0
+StaleForbiddenHitIsWithinItsOwnLifetime =
     (policy : Policy) (held : List Stored) (asked : Asked) (now : ℕ) (response : Stored) →
     ResponseIsTheHit policy held asked now response → ResponseForbidsStale response →
     (lifetime_of response.fields).explicit ≡ true →
@@ -84,12 +84,13 @@ NoCacheResponseIsNeverAHit = (policy : Policy) (held : List Stored) (asked : Ask
 -- nor is one of either kind sent in place of an error
 abbrev pub ForbiddenResponseIsNeverSentOnError : Type 0
 ForbiddenResponseIsNeverSentOnError = (policy : Policy) (response : Stored) (request : List Occurrence) (now : ℕ) →
-    error_rule_on policy response request now ≡ None
+    error_rule_against policy response request now ≡ None
     → (directive_occurs (occurrences_of response.fields) NoCache ≡ true) ⊎ ResponseForbidsStale response → ⊥
 
 -- what a purge expired is sent from then on only where a stale one may be (RFC 9111, section 4.2.4)
-abbrev pub PurgedHitMayBeSentStale : Type 0
-PurgedHitMayBeSentStale = (policy : Policy) (held : List Stored) (asked : Asked) (now : ℕ) (response : Stored) →
+abbrev pub PurgedHitIsSentOnlyWhereStaleMayBe : Type 0
+PurgedHitIsSentOnlyWhereStaleMayBe = (policy : Policy) (held : List Stored) (asked : Asked) (now : ℕ)
+    (response : Stored) →
     ResponseIsTheHit policy held asked now response → ResponseWasPurged response now
     → MayBeSentStale policy response asked now
 

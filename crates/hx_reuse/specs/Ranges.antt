@@ -6,7 +6,7 @@
 use Rattle.std.specs.Prelude.{◌≡◌, ℕ, true, false, List}
 use Rattle.hx_directives.specs.Occurrences.{occurrences_of}
 use Rattle.hx_hop.specs.declared.request_view.Asked.{Asked}
-use Rattle.hx_hop.specs.Bypass.{request_has_content, asks_for_range, has_precondition}
+use Rattle.hx_hop.specs.Bypass.{request_has_content, asks_for_range, has_precondition_for_origin}
 use Rattle.hx_policy.specs.declared.words.Policy.{Policy}
 use Rattle.hx_store.specs.Stored.{Stored}
 use Rattle.hx_reuse.specs.Chosen.{chosen_of}
@@ -19,7 +19,7 @@ pub record RequestsAskForTheSameResponse (held : List Stored) (asked other : Ask
   pub one_key : asked.target.key ≡ other.target.key
   pub same_method : asked.method ≡ other.method
   pub same_content : request_has_content asked ≡ request_has_content other
-  pub same_precondition : has_precondition asked ≡ has_precondition other
+  pub same_precondition : has_precondition_for_origin asked ≡ has_precondition_for_origin other
   pub same_chosen_response : chosen_of held asked ≡ chosen_of held other
   pub same_directives : occurrences_of asked.fields ≡ occurrences_of other.fields
 

@@ -6,14 +6,14 @@
 -- ResponseMayBeReused: all of the list
 use Rattle.std.specs.Prelude.{◌≡◌, ℕ, ◌+◌, ◌-◌, ◌<◌, ◌≤◌, ◌⊎◌, Bool, true, false, List, codes, Some, None}
 use Rattle.hx_directives.specs.Occurrences.{occurrences_of}
-use Rattle.hx_directives.specs.Answers.{directive_occurs, first_valid, max_stale}
+use Rattle.hx_directives.specs.Answers.{directive_occurs, first_valid_seconds, max_stale}
 use Rattle.hx_directives.specs.declared.names.Directive.TheVariants.{NoCache, MaxAge, MinFresh, MustRevalidate}
 use Rattle.hx_directives.specs.declared.names.Directive.TheVariants.{ProxyRevalidate, SMaxage}
 use Rattle.hx_directives.specs.declared.answers.MaxStale.{MaxStale}
 use Rattle.hx_directives.specs.declared.answers.MaxStale.TheVariants.{Absent, Any, UpTo}
 use Rattle.hx_age.specs.Age.{age_of}
 use Rattle.hx_hop.specs.declared.request_view.Asked.{Asked}
-use Rattle.hx_hop.specs.Bypass.{request_has_content, asks_for_range, has_precondition}
+use Rattle.hx_hop.specs.Bypass.{request_has_content, asks_for_range, has_precondition_for_origin}
 use Rattle.hx_store.specs.Stored.{Stored}
 use Rattle.hx_policy.specs.declared.words.Policy.{Policy}
 use Rattle.hx_store.specs.Serials.{SerialsAreDistinct}
@@ -30,17 +30,17 @@ pub record RequestIsForTheCache (forwards_ranges : Bool) (asked : Asked) : Type 
   pub method_allows : (asked.method ≡ codes "GET") ⊎ (asked.method ≡ codes "HEAD")
   pub no_content : request_has_content asked ≡ false
   pub no_range : forwards_ranges ≡ true → asks_for_range asked ≡ false
-  pub no_precondition : has_precondition asked ≡ false
+  pub no_precondition : has_precondition_for_origin asked ≡ false
 
 -- the response isn't older than the request's max-age allows (RFC 9111, section 5.2.1.1)
 abbrev pub ResponseIsWithinMaxAge : Stored → Asked → ℕ → Type 0
 ResponseIsWithinMaxAge response asked now =
-    (most : ℕ) → first_valid (occurrences_of asked.fields) MaxAge ≡ Some most → age_of response.times now ≤ most
+    (most : ℕ) → first_valid_seconds (occurrences_of asked.fields) MaxAge ≡ Some most → age_of response.times now ≤ most
 
 -- it stays fresh for as long as the request's min-fresh wants (RFC 9111, section 5.2.1.3)
 abbrev pub ResponseIsFreshForMinFresh : Policy → Stored → Asked → ℕ → Type 0
 ResponseIsFreshForMinFresh policy response asked now =
-    (least : ℕ) → first_valid (occurrences_of asked.fields) MinFresh ≡ Some least
+    (least : ℕ) → first_valid_seconds (occurrences_of asked.fields) MinFresh ≡ Some least
     → age_of response.times now + least ≤ (lifetime_of_stored_response policy response).seconds
 
 -- it is fresh, and the request takes it so (RFC 9111, sections 4.2 and 5.2.1)
@@ -72,7 +72,7 @@ pub record MayBeSentStale (policy : Policy) (response : Stored) (asked : Asked) 
   pub within_max_stale : MaxStaleAcceptsStaleness (max_stale (occurrences_of asked.fields))
       (age_of response.times now - (lifetime_of_stored_response policy response).seconds)
   pub within_max_age : policy.heeds_requests ≡ true → ResponseIsWithinMaxAge response asked now
-  pub no_min_fresh : policy.heeds_requests ≡ true → first_valid (occurrences_of asked.fields) MinFresh ≡ None
+  pub no_min_fresh : policy.heeds_requests ≡ true → first_valid_seconds (occurrences_of asked.fields) MinFresh ≡ None
 
 -- all that is asked of a response which isn't validated first (RFC 9111, sections 4 and 5.2.2.4)
 -- own: the operator lets the request be answered from the store

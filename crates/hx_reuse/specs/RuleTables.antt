@@ -6,7 +6,7 @@ use Rattle.hx_store.specs.Stored.{Stored}
 use Rattle.hx_policy.specs.declared.words.Policy.{Policy}
 use Rattle.hx_reuse.specs.RuleNames.{reuse_rule_number, error_rule_number}
 use Rattle.hx_reuse.specs.Rules.{ReuseSituation, reuse_rule_condition, rule_applies_to_chosen, reuse_rule_applies}
-use Rattle.hx_reuse.specs.Rules.{request_rules, rules_on_chosen, reuse_rules}
+use Rattle.hx_reuse.specs.Rules.{request_bypass_rules, rules_on_chosen, reuse_rules}
 use Rattle.hx_reuse.specs.Rules.{is_rule_on_chosen}
 use Rattle.hx_reuse.specs.ErrorRules.{error_rules}
 use Rattle.hx_reuse.specs.declared.rule.ReuseRule.{ReuseRule}
@@ -28,7 +28,7 @@ EachReuseRuleIsListed = (rule : ReuseRule) → find
 
 -- the three groups, behind the operator's
 abbrev pub ReuseRulesAreInGroups : Type 0
-ReuseRulesAreInGroups = reuse_rules ≡ Operator ∷ (request_rules ++ (UriMiss ∷ VaryMiss ∷ rules_on_chosen))
+ReuseRulesAreInGroups = reuse_rules ≡ Operator ∷ (request_bypass_rules ++ (UriMiss ∷ VaryMiss ∷ rules_on_chosen))
 
 -- those of the last group, and no others, are named with the chosen response
 abbrev pub RulesOnChosenAreThoseThatNameIt : Type 0

@@ -4,12 +4,12 @@
 -- heeded_request_has_no_cache, is_above_max_age_limit, is_below_min_fresh_of_request, heeded_request_has_min_fresh:
 -- what a request wants
 -- reuse_rule_condition: the condition of each of these rules     reuse_rule_applies: the condition of each rule
--- reuse_rules: the rules by their numbers                  reuse_rule_of: the least that applies
+-- reuse_rules: the rules by their numbers                  least_reuse_rule_of: the least that applies
 -- decision_of: what is done with a request
 use Rattle.std.specs.Prelude.{ℕ, ◌+◌, ◌==◌, nat_lt, if◌then◌else◌, Bool, true, false, not, ◌&&◌, ◌||◌, List, [], ◌∷◌}
 use Rattle.std.specs.Prelude.{length, find, codes, bytes_eq, Option, Some, None, is_some, is_none, option_map}
 use Rattle.hx_directives.specs.Occurrences.{occurrences_of}
-use Rattle.hx_directives.specs.Answers.{directive_occurs, first_valid, max_stale}
+use Rattle.hx_directives.specs.Answers.{directive_occurs, first_valid_seconds, max_stale}
 use Rattle.hx_directives.specs.declared.occurrences.Occurrence.{Occurrence}
 use Rattle.hx_directives.specs.declared.names.Directive.TheVariants as directive
 use Rattle.hx_directives.specs.declared.answers.MaxStale.{MaxStale}
@@ -17,7 +17,7 @@ use Rattle.hx_directives.specs.declared.answers.MaxStale.TheVariants.{Absent, Up
 use Rattle.hx_age.specs.declared.lifetimes.Lifetime.{Lifetime}
 use Rattle.hx_age.specs.Age.{age_of, is_fresh_of, staleness_of}
 use Rattle.hx_hop.specs.declared.request_view.Asked.{Asked}
-use Rattle.hx_hop.specs.Bypass.{request_has_content, asks_for_range, has_precondition}
+use Rattle.hx_hop.specs.Bypass.{request_has_content, asks_for_range, has_precondition_for_origin}
 use Rattle.hx_store.specs.Stored.{Stored}
 use Rattle.hx_policy.specs.declared.words.Policy.{Policy}
 use Rattle.hx_reuse.specs.Lifetimes.{lifetime_of_stored_response}
@@ -52,8 +52,8 @@ situation_of_request policy e asked now =
     situation_with policy (lifetime_of_stored_response policy e) (age_of e.times now) (occurrences_of e.fields)
     (occurrences_of asked.fields)
 
-abbrev pub is_fresh_situation : ReuseSituation → Bool
-is_fresh_situation s = is_fresh_of s.lifetime s.age
+abbrev pub situation_is_fresh : ReuseSituation → Bool
+situation_is_fresh s = is_fresh_of s.lifetime s.age
 
 -- the response may not be sent stale (RFC 9111, sections 5.2.2.2, 5.2.2.8 and 5.2.2.10)
 abbrev pub forbids_sending_stale : ReuseSituation → Bool
@@ -71,17 +71,17 @@ heeded_request_has_no_cache s = s.policy.heeds_requests && directive_occurs s.re
 -- the age is above the request's max-age (RFC 9111, section 5.2.1.1)
 abbrev pub is_above_max_age_limit : ReuseSituation → Bool
 is_above_max_age_limit s =
-    s.policy.heeds_requests && is_some_and (λ most. nat_lt most s.age) (first_valid s.request directive.MaxAge)
+    s.policy.heeds_requests && is_some_and (λ most. nat_lt most s.age) (first_valid_seconds s.request directive.MaxAge)
 
 -- fresh for less than the request's min-fresh (RFC 9111, section 5.2.1.3)
 abbrev pub is_below_min_fresh_of_request : ReuseSituation → Bool
 is_below_min_fresh_of_request s =
     s.policy.heeds_requests && is_some_and (λ least. nat_lt s.lifetime.seconds (s.age + least))
-    (first_valid s.request directive.MinFresh)
+    (first_valid_seconds s.request directive.MinFresh)
 
 -- the request has min-fresh (RFC 9111, section 5.2.1.3)
 abbrev pub heeded_request_has_min_fresh : ReuseSituation → Bool
-heeded_request_has_min_fresh s = s.policy.heeds_requests && is_some (first_valid s.request directive.MinFresh)
+heeded_request_has_min_fresh s = s.policy.heeds_requests && is_some (first_valid_seconds s.request directive.MinFresh)
 
 -- the request takes stale responses, up to a staleness (RFC 9111, section 5.2.1.2)
 abbrev pub max_stale_is_present : MaxStale → Bool
@@ -97,26 +97,26 @@ abbrev pub reuse_rule_condition : ReuseRule → ReuseSituation → Bool
 -- RFC 9111, section 5.2.2.4
 reuse_rule_condition ResponseNoCache s = directive_occurs s.response directive.NoCache
 -- RFC 9111, section 5.2.1.4
-reuse_rule_condition RequestNoCache s = is_fresh_situation s && heeded_request_has_no_cache s
+reuse_rule_condition RequestNoCache s = situation_is_fresh s && heeded_request_has_no_cache s
 -- RFC 9111, section 5.2.1.1
-reuse_rule_condition AboveMaxAge s = is_fresh_situation s && is_above_max_age_limit s
+reuse_rule_condition AboveMaxAge s = situation_is_fresh s && is_above_max_age_limit s
 -- RFC 9111, section 5.2.1.3
-reuse_rule_condition BelowMinFresh s = is_fresh_situation s && is_below_min_fresh_of_request s
+reuse_rule_condition BelowMinFresh s = situation_is_fresh s && is_below_min_fresh_of_request s
 -- RFC 9111, sections 5.2.2.2, 5.2.2.8 and 5.2.2.10
-reuse_rule_condition MustRevalidate s = not (is_fresh_situation s) && forbids_sending_stale s
+reuse_rule_condition MustRevalidate s = not (situation_is_fresh s) && forbids_sending_stale s
 -- own: what states no lifetime is never sent stale (RFC 9111, section 4.2.4 lets a cache send what isn't forbidden)
-reuse_rule_condition NoLifetime s = not (is_fresh_situation s) && not s.lifetime.explicit
+reuse_rule_condition NoLifetime s = not (situation_is_fresh s) && not s.lifetime.explicit
 -- RFC 9111, section 5.2.1.4
-reuse_rule_condition StaleNoCache s = not (is_fresh_situation s) && heeded_request_has_no_cache s
+reuse_rule_condition StaleNoCache s = not (situation_is_fresh s) && heeded_request_has_no_cache s
 -- RFC 9111, section 4.2.4
-reuse_rule_condition NoMaxStale s = not (is_fresh_situation s) && not (max_stale_is_present (max_stale s.request))
+reuse_rule_condition NoMaxStale s = not (situation_is_fresh s) && not (max_stale_is_present (max_stale s.request))
 -- RFC 9111, section 5.2.1.2
-reuse_rule_condition PastMaxStale s = not (is_fresh_situation s) && is_past_max_stale (staleness_of s.lifetime s.age)
+reuse_rule_condition PastMaxStale s = not (situation_is_fresh s) && is_past_max_stale (staleness_of s.lifetime s.age)
     (max_stale s.request)
 -- RFC 9111, section 5.2.1.1
-reuse_rule_condition StaleMaxAge s = not (is_fresh_situation s) && is_above_max_age_limit s
+reuse_rule_condition StaleMaxAge s = not (situation_is_fresh s) && is_above_max_age_limit s
 -- RFC 9111, section 5.2.1.3: what is stale isn't fresh for any time
-reuse_rule_condition StaleMinFresh s = not (is_fresh_situation s) && heeded_request_has_min_fresh s
+reuse_rule_condition StaleMinFresh s = not (situation_is_fresh s) && heeded_request_has_min_fresh s
 -- these speak of no response
 reuse_rule_condition Operator s = false
 reuse_rule_condition Method s = false
@@ -144,7 +144,7 @@ reuse_rule_applies Content policy held asked now = request_has_content asked
 -- them)
 reuse_rule_applies Range policy held asked now = policy.forwards_ranges && asks_for_range asked
 -- own: conditions of RFC 9111, section 4.3.2 that only the origin judges here
-reuse_rule_applies Precondition policy held asked now = has_precondition asked
+reuse_rule_applies Precondition policy held asked now = has_precondition_for_origin asked
 -- RFC 9111, sections 2 and 4
 reuse_rule_applies UriMiss policy held asked now = length (entries_of_key held asked) == 0
 -- RFC 9111, section 4.1
@@ -163,8 +163,8 @@ reuse_rule_applies StaleMaxAge policy held asked now = rule_applies_to_chosen St
 reuse_rule_applies StaleMinFresh policy held asked now = rule_applies_to_chosen StaleMinFresh policy held asked now
 
 -- the rules by their numbers
-abbrev pub request_rules : List ReuseRule
-request_rules = Method ∷ Content ∷ Range ∷ Precondition ∷ []
+abbrev pub request_bypass_rules : List ReuseRule
+request_bypass_rules = Method ∷ Content ∷ Range ∷ Precondition ∷ []
 
 abbrev pub rules_on_chosen : List ReuseRule
 rules_on_chosen =
@@ -178,8 +178,8 @@ reuse_rules =
     ∷ NoMaxStale ∷ PastMaxStale ∷ StaleMaxAge ∷ StaleMinFresh ∷ []
 
 -- the least rule that stands
-unfoldable pub reuse_rule_of : Policy → List Stored → Asked → ℕ → Option ReuseRule
-reuse_rule_of policy held asked now = find (λ rule. reuse_rule_applies rule policy held asked now) reuse_rules
+unfoldable pub least_reuse_rule_of : Policy → List Stored → Asked → ℕ → Option ReuseRule
+least_reuse_rule_of policy held asked now = find (λ rule. reuse_rule_applies rule policy held asked now) reuse_rules
 
 -- the rule speaks of the chosen response
 abbrev pub is_rule_on_chosen : ReuseRule → Bool
@@ -211,4 +211,4 @@ decision_by_rule None None = Hit 0
 -- the chosen response is sent, or the request goes forward by the least rule; a rule on the chosen response names it
 unfoldable pub decision_of : Policy → List Stored → Asked → ℕ → Decision
 decision_of policy held asked now =
-    decision_by_rule (reuse_rule_of policy held asked now) (option_map (λ e. e.serial) (chosen_of held asked))
+    decision_by_rule (least_reuse_rule_of policy held asked now) (option_map (λ e. e.serial) (chosen_of held asked))

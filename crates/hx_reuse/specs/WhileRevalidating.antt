@@ -2,7 +2,7 @@
 -- wait for its answer. That one is there, and that the request could wait for it, is the caller's matter.
 --
 -- limit_of_stale_while_revalidate: the staleness that stale-while-revalidate allows
--- rules_while_revalidating: the rules that keep a stale response back all the same
+-- stale_while_revalidate_rules: the rules that keep a stale response back all the same
 -- situation_allows_stale_while_revalidate, may_be_sent_while_revalidating: what may be sent
 -- ResponseHasStaleWhileRevalidateOf, OperatorGivesStaleWhileRevalidateOf, ResponseMayBeSentWhileRevalidating: the same
 -- without the rules
@@ -10,7 +10,7 @@
 use Rattle.std.specs.Prelude.{◌≡◌, ◌⊎◌, ℕ, ◌≤◌, nat_le, if◌then◌else◌, Bool, true, false, not, ◌&&◌, List, []}
 use Rattle.std.specs.Prelude.{◌∷◌, find, Option, Some, None, is_none}
 use Rattle.hx_directives.specs.Occurrences.{occurrences_of}
-use Rattle.hx_directives.specs.Answers.{directive_occurs, seconds_of_directive, first_valid, max_stale}
+use Rattle.hx_directives.specs.Answers.{directive_occurs, seconds_of_directive, first_valid_seconds, max_stale}
 use Rattle.hx_directives.specs.declared.occurrences.Occurrence.{Occurrence}
 use Rattle.hx_directives.specs.declared.names.Directive.TheVariants as directive
 use Rattle.hx_directives.specs.declared.answers.Seconds.TheVariants.{Value}
@@ -19,7 +19,7 @@ use Rattle.hx_store.specs.Stored.{Stored}
 use Rattle.hx_policy.specs.declared.words.Policy.{Policy}
 use Rattle.hx_policy.specs.Policies.{plain}
 use Rattle.hx_reuse.specs.Lifetimes.{lifetime_of_stored_response}
-use Rattle.hx_reuse.specs.Rules.{ReuseSituation, is_some_and, is_fresh_situation, reuse_rule_condition}
+use Rattle.hx_reuse.specs.Rules.{ReuseSituation, is_some_and, situation_is_fresh, reuse_rule_condition}
 use Rattle.hx_reuse.specs.Rules.{is_past_max_stale}
 use Rattle.hx_reuse.specs.ErrorRules.{seconds_stated_once, situation_of_stored_response}
 use Rattle.hx_reuse.specs.OnError.{staleness_at}
@@ -38,8 +38,8 @@ limit_of_stale_while_revalidate s =
 
 -- What keeps a stale response back: what it forbids itself (RFC 9111, sections 4.2.4, 5.2.2.2, 5.2.2.4, 5.2.2.8 and
 -- 5.2.2.10) and what the request asks (section 5.2.1). A request needn't have max-stale; one that has counts.
-abbrev pub rules_while_revalidating : List ReuseRule
-rules_while_revalidating =
+abbrev pub stale_while_revalidate_rules : List ReuseRule
+stale_while_revalidate_rules =
     ResponseNoCache ∷ MustRevalidate ∷ NoLifetime ∷ StaleNoCache ∷ PastMaxStale ∷ StaleMaxAge ∷ StaleMinFresh ∷ []
 
 -- "indicates that caches MAY serve the response .. after it becomes stale, up to the indicated number of seconds" (RFC
@@ -47,8 +47,8 @@ rules_while_revalidating =
 -- own: over a line that says so
 abbrev pub situation_allows_stale_while_revalidate : ReuseSituation → Bool
 situation_allows_stale_while_revalidate s =
-    s.policy.sends_while_revalidating && (not (is_fresh_situation s)
-    && (is_none (find (λ rule. reuse_rule_condition rule s) rules_while_revalidating)
+    s.policy.sends_while_revalidating && (not (situation_is_fresh s)
+    && (is_none (find (λ rule. reuse_rule_condition rule s) stale_while_revalidate_rules)
     && is_some_and (λ most. nat_le (staleness_of s.lifetime s.age) most) (limit_of_stale_while_revalidate s)))
 
 -- at a moment, by the directives of a request
@@ -80,9 +80,10 @@ pub record ResponseMayBeSentWhileRevalidating (policy : Policy) (response : Stor
   pub no_s_maxage : directive_occurs (occurrences_of response.fields) directive.SMaxage ≡ false
   pub has_a_lifetime : (lifetime_of_stored_response policy response).explicit ≡ true
   pub not_to_be_validated : policy.heeds_requests ≡ true → directive_occurs request directive.NoCache ≡ false
-  pub within_max_age : policy.heeds_requests ≡ true → (most : ℕ) → first_valid request directive.MaxAge ≡ Some most
+  pub within_max_age : policy.heeds_requests ≡ true → (most : ℕ) → first_valid_seconds request directive.MaxAge
+      ≡ Some most
       → age_of response.times now ≤ most
-  pub no_min_fresh : policy.heeds_requests ≡ true → first_valid request directive.MinFresh ≡ None
+  pub no_min_fresh : policy.heeds_requests ≡ true → first_valid_seconds request directive.MinFresh ≡ None
   pub within_max_stale : is_past_max_stale (staleness_at policy response now) (max_stale request) ≡ false
   pub most : ℕ
   pub limit_is : ResponseHasStaleWhileRevalidateOf response most

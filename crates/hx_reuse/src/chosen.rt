@@ -1,7 +1,7 @@
 //! Of some held responses the preferred one: one with a Vary before one without, and then the most recent.
 ghost use Rattle.std.specs.Prelude.{◌≡◌, option_copied};
 ghost use Rattle.std.specs.List.{filter_map};
-ghost use Rattle.hx_store.specs.Shelf.{find_entry};
+ghost use Rattle.hx_store.specs.Shelf.{find_entry_of_serial};
 ghost use Rattle.hx_reuse.specs.Chosen.{is_more_recent, is_preferred_over, preferred_of_two, most_preferred_response};
 
 use hx_store::{Entry, Shelf};
@@ -16,8 +16,8 @@ fn is_preferred_over(a: &Entry, b: &Entry) -> bool
     ensures { result ≡ is_preferred_over a.now b.now }
 {
     match (
-        a.nominated.nominates_a_field(),
-        b.nominated.nominates_a_field(),
+        a.nominated.nominates_any_field(),
+        b.nominated.nominates_any_field(),
     ) {
         (true, false) => true,
         (false, true) => false,
@@ -43,7 +43,7 @@ fn preferred_of_two<'a>(best: Option<&'a Entry>, entry: &'a Entry) -> Option<&'a
 /// The preferred one of the held responses with these serials.
 pub(crate) fn preferred_of_serials<'a, S: Shelf>(shelf: &'a S, serials: &[u64]) -> Option<&'a Entry>
     ensures { option_copied result
-        ≡ most_preferred_response (filter_map (λ s. find_entry s (S.entries shelf.now)) serials.now) }
+        ≡ most_preferred_response (filter_map (λ s. find_entry_of_serial s (S.entries shelf.now)) serials.now) }
 {
     let mut best = None;
     for serial in serials {

@@ -15,7 +15,7 @@ pub fn withholds_conditions(policy: Policy, asked: &Asked) -> bool
         && asked.method.as_str() == "GET"
         && !(asked.has_content()
             || (!policy.fills_ranges && asked.asks_for_range())
-            || asked.has_precondition())
+            || asked.has_precondition_for_origin())
 }
 
 /// Whether a request has a condition of its own that goes to the origin, where the proxy sends none in its place

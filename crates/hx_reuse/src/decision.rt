@@ -61,7 +61,7 @@ fn decide_from_store<S: Shelf>(
         return Ok(Decision::Forward(rule, None));
     }
     let key = &asked.target.key;
-    let matching = shelf.find_matching(alloc, key, &asked.fields)?;
+    let matching = shelf.find_matching_serials(alloc, key, &asked.fields)?;
     let Some(entry) = preferred_of_serials(shelf, matching.as_slice()) else {
         return Ok(Decision::Forward(miss_rule(shelf, key), None));
     };

@@ -15,7 +15,7 @@ pub fn fetches_whole_for_range(policy: Policy, asked: &Asked) -> bool
         && policy.caches
         && asked.method.as_str() == "GET"
         && asked.asks_for_range()
-        && !(asked.has_content() || asked.has_precondition())
+        && !(asked.has_content() || asked.has_precondition_for_origin())
 }
 
 /// Whether a request asks for a range that goes to the origin with it. No memory is taken.

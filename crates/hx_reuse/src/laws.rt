@@ -1,7 +1,7 @@
 //! What the definitions that `decide`, `may_serve_on_error` and `may_serve_while_revalidating` are held to say of every
 //! list of held responses, request and moment.
 ghost use Rattle.hx_reuse.specs.ChosenAndNamed.{ChosenIsPreferredCandidate, ChosenHasAVaryWhereOneHas};
-ghost use Rattle.hx_reuse.specs.ChosenAndNamed.{ChosenIsLatestByDate};
+ghost use Rattle.hx_reuse.specs.ChosenAndNamed.{ChosenIsLatestOfThoseAlikeInVary};
 ghost use Rattle.hx_reuse.specs.ChosenAndNamed.{AResponseIsChosenIfAnyMatches, PreferredCandidateIsChosen};
 ghost use Rattle.hx_reuse.specs.ChosenAndNamed.{SendableResponseIsSent, OnlySendableResponseIsSent};
 ghost use Rattle.hx_reuse.specs.ChosenAndNamed.{AHitIsAStoredResponse};
@@ -19,7 +19,7 @@ ghost use Rattle.hx_reuse.specs.Ranges.{RangeDoesNotChangeTheDecision, Forwarded
 ghost use Rattle.hx_reuse.specs.Reusable.{ReusableResponseIsSent, OnlyReusableResponseIsSent};
 ghost use Rattle.hx_reuse.specs.OnError.{SendableResponseIsSentOnError, OnlySendableResponseIsSentOnError};
 ghost use Rattle.hx_reuse.specs.OnError.{NamedErrorRuleIsLeast};
-ghost use Rattle.hx_reuse.specs.OnError.{LeastErrorRuleIsNamed};
+ghost use Rattle.hx_reuse.specs.OnError.{ErrorRuleThatIsLeastIsNamed};
 ghost use Rattle.std.specs.Prelude.{◌≡◌, Some, None, codes};
 ghost use Rattle.hx_reuse.specs.declared.rule.ReuseRule.TheVariants as rule;
 ghost use Rattle.hx_reuse.specs.declared.rule.ErrorRule.TheVariants as on_error;
@@ -41,10 +41,10 @@ ghost use Rattle.hx_reuse.specs.LineWordsInReuse.{OperatorsStaleIfErrorEnds};
 ghost use Rattle.hx_reuse.specs.LineWordsInReuse.{StatedStaleIfErrorOverridesOperators};
 ghost use Rattle.hx_reuse.specs.Promises.{HitWasStoredForTheSameNominatedValues, HitHasTheNominatedValues};
 ghost use Rattle.hx_reuse.specs.Promises.{StaleForbiddenHitIsFresh};
-ghost use Rattle.hx_reuse.specs.Promises.{StaleForbiddenHitIsWithinLifetime, NoCacheResponseIsNeverAHit};
+ghost use Rattle.hx_reuse.specs.Promises.{StaleForbiddenHitIsWithinItsOwnLifetime, NoCacheResponseIsNeverAHit};
 ghost use Rattle.hx_reuse.specs.Promises.{ForbiddenResponseIsNeverSentOnError};
 ghost use Rattle.hx_reuse.specs.Promises.{UnpurgedLifetimeIsUnchanged, StaleForbiddenPurgedIsNeverAHit};
-ghost use Rattle.hx_reuse.specs.Promises.{PurgedHitMayBeSentStale};
+ghost use Rattle.hx_reuse.specs.Promises.{PurgedHitIsSentOnlyWhereStaleMayBe};
 ghost use Rattle.hx_reuse.specs.WhileRevalidating.{SendableIsSentWhileRevalidating};
 ghost use Rattle.hx_reuse.specs.WhileRevalidating.{OnlySendableIsSentWhileRevalidating};
 ghost use Rattle.hx_reuse.specs.WhileRevalidating.{NeverSentWhileRevalidatingWhereForbidden};
@@ -57,31 +57,31 @@ ghost use Rattle.hx_reuse.specs.RuleTables.{RulesNotOnChosenHaveNoCondition};
 ghost use Rattle.hx_reuse.specs.RuleTables.{ErrorRulesAreInOrder, EachErrorRuleIsListed};
 
 pub use crate::worked_cases::{
-    age_equal_to_lifetime_is_stale, bypass_rules_in_order, least_reuse_rule, line_without_cache,
-    moment_goes_backwards, no_lifetime_is_only_validated, request_max_age_and_only_if_cached,
-    stale_if_error_of_request, stale_if_error_of_response, vary_values_are_compared,
-    worked_answered_ranges, worked_error_lifetime_from_the_line, worked_filled_ranges,
-    worked_ignored_request_directives, worked_later_response_is_preferred, worked_least_error_rule,
-    worked_lifetime_from_the_line, worked_lifetime_limited_by_the_line, worked_purged_response,
+    age_equal_to_lifetime_is_stale, bypass_rules_in_order, exceeded_request_max_age_forwards,
+    line_without_cache, moment_goes_backwards, no_lifetime_is_only_validated,
+    stale_if_error_of_response, vary_values_are_compared, worked_answered_ranges,
+    worked_filled_ranges, worked_ignored_request_directives, worked_later_response_is_preferred,
+    worked_least_error_rule, worked_least_reuse_rules, worked_lifetime_from_the_line,
+    worked_lifetime_limited_by_the_line, worked_lifetime_of_error_statuses, worked_purged_response,
     worked_response_with_vary_is_preferred, worked_stale_if_error_of_line,
-    worked_stale_while_revalidate_of_line, worked_stale_while_revalidate_of_response,
-    worked_withheld_conditions,
+    worked_stale_if_error_of_request, worked_stale_while_revalidate_of_line,
+    worked_stale_while_revalidate_of_response, worked_withheld_conditions,
 };
 use hx_vary::laws::nominated_values_decide_as_the_request_does;
 
 /// The chosen response is held, has the request's key and nominated values, and none that has is
 /// preferred to it: it has a Vary where one of them has, and of those that are like it in this none
 /// has a later Date. None is chosen only where none has them.
-pub fn the_preferred_that_matches_is_chosen()
+pub fn preferred_of_matching_is_chosen()
     ensures preferred { ChosenIsPreferredCandidate }
     ensures with_vary { ChosenHasAVaryWhereOneHas }
-    ensures by_date { ChosenIsLatestByDate }
+    ensures by_date { ChosenIsLatestOfThoseAlikeInVary }
     ensures some { AResponseIsChosenIfAnyMatches }
     ensures no_other { PreferredCandidateIsChosen }
 {}
 
 /// The chosen response is sent exactly where no rule stands.
-pub fn sent_where_no_rule_applies()
+pub fn chosen_is_sent_iff_no_rule_applies()
     ensures every { SendableResponseIsSent }
     ensures only { OnlySendableResponseIsSent }
 {}
@@ -119,7 +119,7 @@ pub fn sent_on_error_where_it_may_be()
 /// The rule that is named after an error stands, and none of a smaller number does.
 pub fn the_least_error_rule_is_named()
     ensures least { NamedErrorRuleIsLeast }
-    ensures every { LeastErrorRuleIsNamed }
+    ensures every { ErrorRuleThatIsLeastIsNamed }
 {}
 
 /// A response that is sent without the origin was asked for with the values that the request has of
@@ -141,7 +141,7 @@ pub fn no_other_requests_variant_is_sent()
 /// an error, or while one asks the origin about it, neither is sent.
 pub fn forbidden_responses_are_never_sent_unvalidated()
     ensures stale { StaleForbiddenHitIsFresh }
-    ensures stated { StaleForbiddenHitIsWithinLifetime }
+    ensures stated { StaleForbiddenHitIsWithinItsOwnLifetime }
     ensures no_cache { NoCacheResponseIsNeverAHit }
     ensures error { ForbiddenResponseIsNeverSentOnError }
     ensures while_revalidating { NeverSentWhileRevalidatingWhereForbidden }
@@ -150,7 +150,7 @@ pub fn forbidden_responses_are_never_sent_unvalidated()
 /// A response that a purge expired is sent from that moment on only where a stale one may be, so never where it forbids
 /// to be sent stale. What no purge expired lasts as long as it would without purges.
 pub fn a_purged_response_is_sent_only_as_stale()
-    ensures stale { PurgedHitMayBeSentStale }
+    ensures stale { PurgedHitIsSentOnlyWhereStaleMayBe }
     ensures forbidden { StaleForbiddenPurgedIsNeverAHit }
     ensures others { UnpurgedLifetimeIsUnchanged }
 {}

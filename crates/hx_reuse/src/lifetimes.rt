@@ -3,7 +3,7 @@ ghost use Rattle.std.specs.Prelude.{◌≡◌};
 ghost use Rattle.hx_directives.specs.Occurrences.{occurrences_of};
 ghost use Rattle.hx_reuse.specs.Lifetimes.{lifetime_capped_at, lifetime_of_stored_response, lifetime_under_policy};
 
-use hx_age::{Lifetime, lifetime_ended_by_purge};
+use hx_age::{Lifetime, lifetime_shortened_by_purge};
 use hx_directives::{Directives, MOST_SECONDS};
 use hx_fields::Fields;
 use hx_policy::Policy;
@@ -51,5 +51,5 @@ pub fn lifetime_of_stored_response(policy: Policy, entry: &Entry) -> Lifetime
     ensures { result ≡ lifetime_of_stored_response policy entry.now }
 {
     let lifetime = lifetime_under_policy(policy, entry.status, &entry.fields, &entry.directives);
-    lifetime_ended_by_purge(&entry.times, lifetime)
+    lifetime_shortened_by_purge(&entry.times, lifetime)
 }

@@ -3,10 +3,10 @@
 //! The rules and their order stand in `specs/ErrorRules.antt`. Which response is asked about, and that no rule stands
 //! that asks of the request alone, is the caller's matter.
 ghost use Rattle.std.specs.Prelude.{◌≡◌, ◌||◌, ◌&&◌, nat_lt, if◌then◌else◌, find, None, is_none};
-ghost use Rattle.hx_directives.specs.Answers.{directive_occurs, seconds_of_directive, first_valid};
+ghost use Rattle.hx_directives.specs.Answers.{directive_occurs, seconds_of_directive, first_valid_seconds};
 ghost use Rattle.hx_directives.specs.declared.names.Directive.TheVariants.{StaleIfError};
 ghost use Rattle.hx_reuse.specs.Rules.{is_some_and, situation_with};
-ghost use Rattle.hx_reuse.specs.ErrorRules.{seconds_stated_once, error_rules, error_rule_condition, error_rule_on};
+ghost use Rattle.hx_reuse.specs.ErrorRules.{seconds_stated_once, error_rules, error_rule_condition, error_rule_against};
 ghost use Rattle.hx_reuse.specs.ErrorRules.{permission_on_error};
 
 use crate::lifetimes::lifetime_of_stored_response;
@@ -18,7 +18,7 @@ use hx_policy::Policy;
 use hx_store::Entry;
 
 /// The staleness that a response allows, in seconds.
-fn stale_limit_of_response(response: &Directives) -> Option<u32>
+fn stale_if_error_limit_of_response(response: &Directives) -> Option<u32>
     ensures { result ≡ seconds_stated_once (seconds_of_directive response.now StaleIfError) }
 {
     match response.seconds(Directive::StaleIfError) {
@@ -28,7 +28,7 @@ fn stale_limit_of_response(response: &Directives) -> Option<u32>
 }
 
 /// The staleness that the operator's line allows, in seconds, where neither the response nor the request says any.
-fn stale_limit_of_operator(
+fn operator_stale_if_error_limit(
     policy: Policy,
     response: &Directives,
     request: &Directives,
@@ -56,13 +56,15 @@ fn is_stale_beyond_limit(stale_by: u32, limit: Option<u32>) -> bool
 fn allows_no_staleness(policy: Policy, response: &Directives, request: &Directives) -> bool
     ensures { result
         ≡ ((is_none (seconds_stated_once (seconds_of_directive response.now StaleIfError)) && is_none
-        (first_valid request.now StaleIfError))
+        (first_valid_seconds request.now StaleIfError))
         && is_none (if directive_occurs response.now StaleIfError || directive_occurs request.now StaleIfError then None
         else policy.stale_if_error)) }
 {
-    stale_limit_of_response(response).is_none()
-        && request.first_valid(Directive::StaleIfError).is_none()
-        && stale_limit_of_operator(policy, response, request).is_none()
+    stale_if_error_limit_of_response(response).is_none()
+        && request
+            .first_valid_seconds(Directive::StaleIfError)
+            .is_none()
+        && operator_stale_if_error_limit(policy, response, request).is_none()
 }
 
 /// Whether a response is staler than itself, the request or the operator's line allows.
@@ -70,14 +72,20 @@ fn is_too_stale(policy: Policy, stale_by: u32, response: &Directives, request: &
     ensures { result ≡
         ((is_some_and (λ most. nat_lt most stale_by)
         (seconds_stated_once (seconds_of_directive response.now StaleIfError))
-        || is_some_and (λ most. nat_lt most stale_by) (first_valid request.now StaleIfError))
+        || is_some_and (λ most. nat_lt most stale_by) (first_valid_seconds request.now StaleIfError))
         || is_some_and (λ most. nat_lt most stale_by) (if directive_occurs response.now StaleIfError
         || directive_occurs request.now StaleIfError
         then None else policy.stale_if_error)) }
 {
-    is_stale_beyond_limit(stale_by, stale_limit_of_response(response))
-        || is_stale_beyond_limit(stale_by, request.first_valid(Directive::StaleIfError))
-        || is_stale_beyond_limit(stale_by, stale_limit_of_operator(policy, response, request))
+    is_stale_beyond_limit(stale_by, stale_if_error_limit_of_response(response))
+        || is_stale_beyond_limit(
+            stale_by,
+            request.first_valid_seconds(Directive::StaleIfError),
+        )
+        || is_stale_beyond_limit(
+            stale_by,
+            operator_stale_if_error_limit(policy, response, request),
+        )
 }
 
 /// The least rule on a response that would be sent in place of an error.
@@ -109,14 +117,14 @@ fn rule_on_error(
 }
 
 /// The least rule on the response that was chosen for a request.
-#[tactic(auto, unfolding(crate::specs::ErrorRules::error_rule_on))]
+#[tactic(auto, unfolding(crate::specs::ErrorRules::error_rule_against))]
 fn least_rule_on_chosen(
     asked_directives: &Directives,
     entry: &Entry,
     now: u64,
     policy: Policy,
 ) -> Option<ErrorRule>
-    ensures { result ≡ error_rule_on policy entry.now asked_directives.now now }
+    ensures { result ≡ error_rule_against policy entry.now asked_directives.now now }
 {
     let lifetime = lifetime_of_stored_response(policy, entry);
     let age = current_age(&entry.times, now);

@@ -1,7 +1,7 @@
 //! The least rule against a request, and against the response that was chosen for it.
 ghost use Rattle.std.specs.Prelude.{◌≡◌, ℕ, List, false, find, ◌&&◌, ◌||◌, nat_lt, ◌+◌, is_some};
 ghost use Rattle.hx_directives.specs.Occurrences.{occurrences_of};
-ghost use Rattle.hx_directives.specs.Answers.{first_valid, directive_occurs, max_stale};
+ghost use Rattle.hx_directives.specs.Answers.{first_valid_seconds, directive_occurs, max_stale};
 ghost use Rattle.hx_directives.specs.declared.names.Directive.TheVariants.{MaxAge, MinFresh, NoCache, MustRevalidate};
 ghost use Rattle.hx_directives.specs.declared.names.Directive.TheVariants.{ProxyRevalidate, SMaxage};
 ghost use Rattle.hx_age.specs.Age.{is_fresh_of, staleness_of};
@@ -9,7 +9,7 @@ ghost use Rattle.hx_store.specs.Stored.{Stored};
 ghost use Rattle.hx_reuse.specs.Rules.{is_some_and, reuse_rule_condition, reuse_rule_applies, is_past_max_stale};
 ghost use Rattle.hx_reuse.specs.Rules.{max_stale_is_present, situation_with};
 ghost use Rattle.hx_reuse.specs.Rules.{situation_of_request};
-ghost use Rattle.hx_reuse.specs.Rules.{request_rules, rules_on_chosen};
+ghost use Rattle.hx_reuse.specs.Rules.{request_bypass_rules, rules_on_chosen};
 
 use crate::lifetimes::lifetime_of_stored_response;
 use crate::rule::ReuseRule;
@@ -22,7 +22,7 @@ use hx_store::Entry;
 /// The least rule on the request alone.
 pub(crate) fn least_rule_on_request(asked: &Asked, policy: Policy) -> Option<ReuseRule>
     ensures { (held : List Stored) (now : ℕ)
-        → result ≡ find (λ r. reuse_rule_applies r policy held asked.now now) request_rules }
+        → result ≡ find (λ r. reuse_rule_applies r policy held asked.now now) request_bypass_rules }
 {
     if asked.method.as_str() != "GET" && asked.method.as_str() != "HEAD" {
         return Some(ReuseRule::Method);
@@ -33,7 +33,7 @@ pub(crate) fn least_rule_on_request(asked: &Asked, policy: Policy) -> Option<Reu
     if policy.forwards_ranges && asked.asks_for_range() {
         return Some(ReuseRule::Range);
     }
-    if asked.has_precondition() {
+    if asked.has_precondition_for_origin() {
         return Some(ReuseRule::Precondition);
     }
     None
@@ -49,15 +49,15 @@ pub(crate) fn heeded_request_has_no_cache(policy: Policy, request: &Directives) 
 /// Whether an age is above a request's max-age, where the operator's line heeds it.
 pub(crate) fn request_max_age_is_exceeded(policy: Policy, age: u32, request: &Directives) -> bool
     ensures { result
-        ≡ (policy.heeds_requests && is_some_and (λ most. nat_lt most age) (first_valid request.now MaxAge)) }
+        ≡ (policy.heeds_requests && is_some_and (λ most. nat_lt most age) (first_valid_seconds request.now MaxAge)) }
 {
     policy.heeds_requests && is_above_max_age_of(age, request)
 }
 
 fn is_above_max_age_of(age: u32, request: &Directives) -> bool
-    ensures { result ≡ is_some_and (λ most. nat_lt most age) (first_valid request.now MaxAge) }
+    ensures { result ≡ is_some_and (λ most. nat_lt most age) (first_valid_seconds request.now MaxAge) }
 {
-    match request.first_valid(Directive::MaxAge) {
+    match request.first_valid_seconds(Directive::MaxAge) {
         Some(most) => most < age,
         None => false,
     }
@@ -66,15 +66,16 @@ fn is_above_max_age_of(age: u32, request: &Directives) -> bool
 /// Whether a lifetime is over before a request's min-fresh is, where the operator's line heeds it.
 fn is_below_min_fresh(policy: Policy, lifetime: Lifetime, age: u32, request: &Directives) -> bool
     ensures { result ≡ (policy.heeds_requests
-        && is_some_and (λ least. nat_lt lifetime.seconds (age + least)) (first_valid request.now MinFresh)) }
+        && is_some_and (λ least. nat_lt lifetime.seconds (age + least)) (first_valid_seconds request.now MinFresh)) }
 {
     policy.heeds_requests && is_below_min_fresh_of(lifetime, age, request)
 }
 
 fn is_below_min_fresh_of(lifetime: Lifetime, age: u32, request: &Directives) -> bool
-    ensures { result ≡ is_some_and (λ least. nat_lt lifetime.seconds (age + least)) (first_valid request.now MinFresh) }
+    ensures { result
+        ≡ is_some_and (λ least. nat_lt lifetime.seconds (age + least)) (first_valid_seconds request.now MinFresh) }
 {
-    match request.first_valid(Directive::MinFresh) {
+    match request.first_valid_seconds(Directive::MinFresh) {
         Some(least) => u64::from(lifetime.seconds) < u64::from(age) + u64::from(least),
         None => false,
     }
@@ -82,9 +83,9 @@ fn is_below_min_fresh_of(lifetime: Lifetime, age: u32, request: &Directives) -> 
 
 /// Whether a request has min-fresh, where the operator's line heeds it.
 pub(crate) fn heeded_request_has_min_fresh(policy: Policy, request: &Directives) -> bool
-    ensures { result ≡ (policy.heeds_requests && is_some (first_valid request.now MinFresh)) }
+    ensures { result ≡ (policy.heeds_requests && is_some (first_valid_seconds request.now MinFresh)) }
 {
-    policy.heeds_requests && request.first_valid(Directive::MinFresh).is_some()
+    policy.heeds_requests && request.first_valid_seconds(Directive::MinFresh).is_some()
 }
 
 pub(crate) fn is_past_max_stale_of_request(

@@ -8,7 +8,8 @@ ghost use Rattle.hx_directives.specs.declared.names.Directive.TheVariants.{Stale
 ghost use Rattle.hx_age.specs.Age.{is_fresh_of};
 ghost use Rattle.hx_reuse.specs.Rules.{is_some_and, reuse_rule_condition, situation_with};
 ghost use Rattle.hx_reuse.specs.ErrorRules.{seconds_stated_once};
-ghost use Rattle.hx_reuse.specs.WhileRevalidating.{rules_while_revalidating, situation_allows_stale_while_revalidate};
+ghost use Rattle.hx_reuse.specs.WhileRevalidating.{stale_while_revalidate_rules};
+ghost use Rattle.hx_reuse.specs.WhileRevalidating.{situation_allows_stale_while_revalidate};
 ghost use Rattle.hx_reuse.specs.WhileRevalidating.{may_be_sent_while_revalidating};
 
 use crate::lifetimes::lifetime_of_stored_response;
@@ -65,7 +66,7 @@ fn rule_while_revalidating(
     requires stale { is_fresh_of lifetime age ≡ false }
     ensures { result ≡ find
         (λ r. reuse_rule_condition r
-        (situation_with policy lifetime age response.now request.now)) rules_while_revalidating }
+        (situation_with policy lifetime age response.now request.now)) stale_while_revalidate_rules }
 {
     if response.has(Directive::NoCache) {
         return Some(ReuseRule::ResponseNoCache);

@@ -1,6 +1,6 @@
 //! What the rules give on worked cases, computed from the definitions: each function's contract is the cases, and its
 //! body is empty.
-#![tactic(auto, unfolding(crate::specs::Rules::reuse_rule_of, crate::specs::Rules::decision_of, crate::specs::ErrorRules::error_rule_on, crate::specs::WhileRevalidating::may_be_sent_while_revalidating))]
+#![tactic(auto, unfolding(crate::specs::Rules::least_reuse_rule_of, crate::specs::Rules::decision_of, crate::specs::ErrorRules::error_rule_against, crate::specs::WhileRevalidating::may_be_sent_while_revalidating))]
 
 ghost use Rattle.std.specs.Prelude.{◌≡◌, ◌∷◌, [], Some, None, Ok, Err, true, false, codes};
 ghost use Rattle.hx_fields.specs.Examples.{line};
@@ -8,14 +8,15 @@ ghost use Rattle.hx_directives.specs.Answers.{directive_occurs};
 ghost use Rattle.hx_directives.specs.declared.names.Directive.TheVariants.{OnlyIfCached};
 ghost use Rattle.hx_policy.specs.Policies.{plain};
 ghost use Rattle.hx_reuse.specs.Conditions.{withholds_conditions, forwards_client_condition};
-ghost use Rattle.hx_reuse.specs.FilledRanges.{fetches_whole_for_range, forwards_range, request_sent_to_origin};
-ghost use Rattle.hx_reuse.specs.Rules.{decision_of, reuse_rule_of};
-ghost use Rattle.hx_reuse.specs.ErrorRules.{permission_on_error, error_rule_of};
+ghost use Rattle.hx_reuse.specs.FilledRanges.{fetches_whole_for_range, forwards_range, request_without_filled_range};
+ghost use Rattle.hx_reuse.specs.Rules.{decision_of, least_reuse_rule_of};
+ghost use Rattle.hx_reuse.specs.ErrorRules.{permission_on_error, least_error_rule_of};
 ghost use Rattle.hx_reuse.specs.WhileRevalidating.{may_be_sent_while_revalidating};
 ghost use Rattle.hx_reuse.specs.Cases.{while_revalidating_policy, stale_while_revalidate_policy};
-ghost use Rattle.hx_reuse.specs.Cases.{cache_control_fields, accept_language, get_a_with, get_b_in_german};
+ghost use Rattle.hx_reuse.specs.Cases.{cache_control_fields, accept_language_line, get_a_with, get_b_in_german};
 ghost use Rattle.hx_reuse.specs.Cases.{get_a_with_content};
-ghost use Rattle.hx_reuse.specs.Cases.{purged_at, stored_at, stored_with_cache_control, one_held_with_cache_control};
+ghost use Rattle.hx_reuse.specs.Cases.{purged_at, example_response_stored_at, stored_with_cache_control};
+ghost use Rattle.hx_reuse.specs.Cases.{one_held_with_cache_control};
 ghost use Rattle.hx_reuse.specs.Cases.{one_held_in_german, one_held_with_etag, request_directives};
 ghost use Rattle.hx_reuse.specs.Cases.{policy_with_lifetime};
 ghost use Rattle.hx_reuse.specs.Cases.{policy_with_error_lifetime, policy_with_greatest_lifetime};
@@ -29,12 +30,12 @@ use crate::{Decision, ErrorRule, ReuseRule};
 
 /// Stored for a request in German: the same value, none, two lines, and another path.
 pub fn vary_values_are_compared()
-    ensures same { decision_of (plain true) one_held_in_german (get_a_with (accept_language (codes "de") ∷ [])) 1
+    ensures same { decision_of (plain true) one_held_in_german (get_a_with (accept_language_line (codes "de") ∷ [])) 1
         ≡ Decision.Hit 1 }
     ensures absent { decision_of (plain true) one_held_in_german (get_a_with []) 1
         ≡ Decision.Forward ReuseRule.VaryMiss None }
     ensures two_lines { decision_of (plain true) one_held_in_german
-        (get_a_with (accept_language (codes "de") ∷ accept_language (codes "en") ∷ [])) 1
+        (get_a_with (accept_language_line (codes "de") ∷ accept_language_line (codes "en") ∷ [])) 1
         ≡ Decision.Forward ReuseRule.VaryMiss None }
     ensures another_path { decision_of (plain true) one_held_in_german get_b_in_german 1
         ≡ Decision.Forward ReuseRule.UriMiss None }
@@ -71,7 +72,7 @@ pub fn worked_later_response_is_preferred()
 
 /// A response of a minute at 90, stored at 101: it was a second on the way.
 pub fn moment_goes_backwards()
-    ensures { decision_of (plain true) (stored_at 101 [] (cache_control_fields (codes "max-age=60")) ∷ [])
+    ensures { decision_of (plain true) (example_response_stored_at 101 [] (cache_control_fields (codes "max-age=60")) ∷ [])
         (get_a_with []) 90 ≡ Decision.Hit 1 }
 {}
 
@@ -84,7 +85,7 @@ pub fn age_equal_to_lifetime_is_stale()
 {}
 
 /// A response of 6 seconds, asked for with max-age=5. Whether the origin may be asked is no matter of the rule.
-pub fn request_max_age_and_only_if_cached()
+pub fn exceeded_request_max_age_forwards()
     ensures max_age { decision_of (plain true) (one_held_with_cache_control (codes "max-age=60"))
         (get_a_with (cache_control_fields (codes "max-age=5"))) 6
         ≡ Decision.Forward ReuseRule.AboveMaxAge (Some 1) }
@@ -123,7 +124,7 @@ pub fn no_lifetime_is_only_validated()
 {}
 
 /// The least rule, where several stand.
-pub fn least_reuse_rule()
+pub fn worked_least_reuse_rules()
     ensures response_no_cache { decision_of (plain true) (one_held_with_cache_control (codes "no-cache, max-age=60"))
         (get_a_with (cache_control_fields (codes "no-cache"))) 1 ≡ Decision.Forward ReuseRule.ResponseNoCache (Some 1) }
     ensures request_no_cache { decision_of (plain true) (one_held_with_cache_control (codes "max-age=60"))
@@ -144,12 +145,12 @@ pub fn stale_if_error_of_response()
         (stored_with_cache_control (codes "max-age=10, stale-if-error=60")) [] 71 ≡ Err ErrorRule.TooStale }
     ensures forbidden { permission_on_error (plain true)
         (stored_with_cache_control (codes "max-age=10, stale-if-error=60, must-revalidate")) [] 70 ≡ Err ErrorRule.MustRevalidate }
-    ensures of_the_chosen { error_rule_of (plain true)
+    ensures of_the_chosen { least_error_rule_of (plain true)
         (one_held_with_cache_control (codes "max-age=10, stale-if-error=60")) (get_a_with []) 71 ≡ Some ErrorRule.TooStale }
 {}
 
 /// Of 10 seconds, stale by 10: without the directive, and by the request's.
-pub fn stale_if_error_of_request()
+pub fn worked_stale_if_error_of_request()
     ensures none { permission_on_error (plain true) (stored_with_cache_control (codes "max-age=10")) [] 20
         ≡ Err ErrorRule.NoDirective }
     ensures within { permission_on_error (plain true) (stored_with_cache_control (codes "max-age=10"))
@@ -215,7 +216,7 @@ pub fn worked_lifetime_from_the_line()
 
 /// Under a line that gives a minute, and errors five seconds: a 404 is fresh at 4 and stale at 5,
 /// when a 200 is fresh. A 500 isn't given any, and a 404 of 10 seconds keeps its own.
-pub fn worked_error_lifetime_from_the_line()
+pub fn worked_lifetime_of_error_statuses()
     ensures fresh { decision_of (policy_with_error_lifetime 60 5) (one_held_of_status 404) (get_a_with []) 4
         ≡ Decision.Hit 1 }
     ensures stale { decision_of (policy_with_error_lifetime 60 5) (one_held_of_status 404) (get_a_with []) 5
@@ -502,10 +503,10 @@ pub fn worked_filled_ranges()
     ensures stays { forwards_range fill_ranges_policy (get_a_with range_field_of_two_bytes) ≡ false }
     ensures goes { forwards_range serve_ranges_policy (get_a_with range_field_of_two_bytes) ≡ true }
     ensures none_goes { forwards_range serve_ranges_policy (get_a_with []) ≡ false }
-    ensures forwarded { request_sent_to_origin fill_ranges_policy (get_a_with (line (codes "range") (codes "bytes=0-1")
-        ∷ accept_language (codes "de") ∷ line (codes "If-Range") (codes "\"e\"") ∷ []))
-        ≡ get_a_with (accept_language (codes "de") ∷ []) }
-    ensures forwarded_as_it_is { request_sent_to_origin serve_ranges_policy (get_a_with range_field_of_two_bytes)
+    ensures forwarded { request_without_filled_range fill_ranges_policy (get_a_with (line (codes "range") (codes "bytes=0-1")
+        ∷ accept_language_line (codes "de") ∷ line (codes "If-Range") (codes "\"e\"") ∷ []))
+        ≡ get_a_with (accept_language_line (codes "de") ∷ []) }
+    ensures forwarded_as_it_is { request_without_filled_range serve_ranges_policy (get_a_with range_field_of_two_bytes)
         ≡ get_a_with range_field_of_two_bytes }
     ensures missing { decision_of fill_ranges_policy [] (get_a_with range_field_of_two_bytes) 0
         ≡ Decision.Forward ReuseRule.UriMiss None }
@@ -532,7 +533,7 @@ pub fn worked_withheld_conditions()
     ensures kept_behind { forwards_client_condition withhold_conditions_policy (get_a_if_none_match []) ≡ false }
     ensures tag { forwards_client_condition (plain true) (get_a_if_none_match []) ≡ true }
     ensures date { forwards_client_condition (plain true) (get_a_with (line (codes "If-Modified-Since") (codes "x") ∷ [])) ≡ true }
-    ensures none { forwards_client_condition (plain true) (get_a_with (accept_language (codes "de") ∷ [])) ≡ false }
+    ensures none { forwards_client_condition (plain true) (get_a_with (accept_language_line (codes "de") ∷ [])) ≡ false }
     ensures range { forwards_client_condition withhold_conditions_policy (get_a_if_none_match (line (codes "Range")
         (codes "bytes=0-1") ∷ [])) ≡ true }
 {}

@@ -1,7 +1,7 @@
 -- What a reply is, as data: what each function gives, and how its text follows from it.
 --
--- about_refusal, about_purge: what the proxy's own answers are
--- reason_text: what a reply tells, as a line of a log has it
+-- refusal_status_and_reason, purge_status_and_reason: what the proxy's own answers are
+-- reply_reason_text: what a reply tells, as a line of a log has it
 -- CacheStatusMemberHasTheReason, RefusalTextIsTheReason: what is told as data is what the reply's own line says
 use Rattle.std.specs.Prelude.{◌≡◌, ℕ, List, ◌++◌, codes, None}
 use Rattle.std.specs.Fmt.{decimal}
@@ -17,8 +17,8 @@ use Rattle.hx_status.specs.declared.status.How.TheVariants.{Hit, Fwd}
 use Rattle.hx_status.specs.declared.status.Status.{Status}
 
 -- the proxy answers by itself, by no origin's word, with so many bytes of content
-abbrev pub about_refusal : Cause → ℕ → StatusAndReason
-about_refusal cause content_length = record {
+abbrev pub refusal_status_and_reason : Cause → ℕ → StatusAndReason
+refusal_status_and_reason cause content_length = record {
   status = refusal_status cause;
   told = Refused cause;
   content_length = content_length;
@@ -26,8 +26,8 @@ about_refusal cause content_length = record {
 }
 
 -- 204: a purge took so many
-abbrev pub about_purge : ℕ → StatusAndReason
-about_purge count = record { status = 204; told = Purged count; content_length = 0; origin_line = None }
+abbrev pub purge_status_and_reason : ℕ → StatusAndReason
+purge_status_and_reason count = record { status = 204; told = Purged count; content_length = 0; origin_line = None }
 
 abbrev pub handling_text : How → List ℕ
 handling_text Hit = codes "hit"
@@ -40,16 +40,17 @@ cache_status_parameters_text status =
     ++ text_if_flag status.stored (codes ";stored") ++ text_if_flag status.collapsed (codes ";collapsed") ++ detail_parameter_text status
 
 -- those, the text of Refusal, or the line of Purged
-abbrev pub reason_text : Told → List ℕ
-reason_text (Handled status) = cache_status_parameters_text status
-reason_text (Refused cause) = refusal_text cause
-reason_text (Purged count) = codes "Purged: " ++ decimal count
+abbrev pub reply_reason_text : Told → List ℕ
+reply_reason_text (Handled status) = cache_status_parameters_text status
+reply_reason_text (Refused cause) = refusal_text cause
+reply_reason_text (Purged count) = codes "Purged: " ++ decimal count
 
 -- ---- the statement
 
 abbrev pub CacheStatusMemberHasTheReason : Type 0
 CacheStatusMemberHasTheReason = (name : List ℕ) (status : Status)
-    → member_text name status ≡ name ++ (codes ";" ++ reason_text (Handled status))
+    → member_text name status ≡ name ++ (codes ";" ++ reply_reason_text (Handled status))
 
 abbrev pub RefusalTextIsTheReason : Type 0
-RefusalTextIsTheReason = (cause : Cause) (n : ℕ) → refusal_text cause ≡ reason_text (about_refusal cause n).told
+RefusalTextIsTheReason = (cause : Cause) (n : ℕ) → refusal_text cause
+    ≡ reply_reason_text (refusal_status_and_reason cause n).told

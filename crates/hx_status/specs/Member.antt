@@ -83,13 +83,13 @@ detail_of_step_or_rule None how = detail_of_rule how
 abbrev pub detail_of_status : Status → Option (List ℕ)
 detail_of_status status = detail_word_or_not_stored (detail_of_step_or_rule status.detail status.how) status.not_stored
 
-abbrev pub detail_word_text : Option (List ℕ) → List ℕ
-detail_word_text None = []
-detail_word_text (Some word) = codes ";detail=" ++ word
+abbrev pub parameter_of_detail_word : Option (List ℕ) → List ℕ
+parameter_of_detail_word None = []
+parameter_of_detail_word (Some word) = codes ";detail=" ++ word
 
 -- what tells the rule from others of its reason (RFC 9211, section 2.8)
 abbrev pub detail_parameter_text : Status → List ℕ
-detail_parameter_text status = detail_word_text (detail_of_status status)
+detail_parameter_text status = parameter_of_detail_word (detail_of_status status)
 
 abbrev pub member_text : List ℕ → Status → List ℕ
 member_text name status =

@@ -13,7 +13,7 @@ use Rattle.hx_target.specs.declared.target_fault.TargetFault.TheVariants as targ
 use Rattle.hx_reuse.specs.declared.rule.ReuseRule.{ReuseRule}
 use Rattle.hx_reuse.specs.declared.rule.ErrorRule.{ErrorRule}
 use Rattle.hx_reuse.specs.RuleNames.{reuse_rule_reason, reuse_rule_detail, error_rule_word}
-use Rattle.hx_status.specs.Member.{detail_word_text}
+use Rattle.hx_status.specs.Member.{parameter_of_detail_word}
 use Rattle.hx_status.specs.declared.cause.FailKind.{FailKind}
 use Rattle.hx_status.specs.declared.cause.FailKind.TheVariants.{Refused, TimedOut, Closed, BadAnswer, TooLarge}
 use Rattle.hx_status.specs.declared.cause.Cause.{Cause}
@@ -22,7 +22,7 @@ use Rattle.hx_status.specs.declared.cause.Cause.TheVariants.{Target}
 
 -- reason and detail of a reuse rule, as in Cache-Status
 abbrev pub fwd_parameters_of_rule : ReuseRule → List ℕ
-fwd_parameters_of_rule rule = codes ";fwd=" ++ reuse_rule_reason rule ++ detail_word_text (reuse_rule_detail rule)
+fwd_parameters_of_rule rule = codes ";fwd=" ++ reuse_rule_reason rule ++ parameter_of_detail_word (reuse_rule_detail rule)
 
 abbrev pub fail_kind_word : FailKind → List ℕ
 fail_kind_word Refused = codes "refused"

@@ -1,11 +1,11 @@
 //! What a reply is, as data.
 ghost use Rattle.std.specs.Prelude.{◌≡◌, ◌+◌, ◌<◌, ◌≤◌, ◌++◌, OnErr, OnOk, length, take, vec_capacity};
-ghost use Rattle.hx_status.specs.Abouts.{about_refusal, about_purge, reason_text};
+ghost use Rattle.hx_status.specs.Abouts.{refusal_status_and_reason, purge_status_and_reason, reply_reason_text};
 
-use crate::cache_status::push_handled;
+use crate::cache_status::push_status_parameters;
 use crate::cause::Cause;
-use crate::own_replies::{push_refusal, refusal_status};
-use crate::question::Question;
+use crate::own_replies::{push_refusal_text, refusal_status};
+use crate::question::MethodAndTarget;
 use crate::status::Status;
 use itoa::Buffer;
 use std::alloc::AllocError;
@@ -38,13 +38,13 @@ pub struct StatusAndReason {
 pub struct ReplyData {
     pub about: StatusAndReason,
     /// What its client asked for; none where the head of the request couldn't be read, or its content.
-    pub question: Option<Question>,
+    pub question: Option<MethodAndTarget>,
 }
 
 impl StatusAndReason {
     /// The proxy answers by itself for this cause, with so many bytes of content, and asked no origin.
     pub fn refusal(cause: Cause, content_length: u64) -> StatusAndReason
-        ensures { result ≡ about_refusal cause content_length }
+        ensures { result ≡ refusal_status_and_reason cause content_length }
     {
         StatusAndReason {
             status: refusal_status(cause),
@@ -56,7 +56,7 @@ impl StatusAndReason {
 
     /// The answer to a purge that took so many (RFC 9110, section 15.3.5).
     pub fn purge(count: u64) -> StatusAndReason
-        ensures { result ≡ about_purge count }
+        ensures { result ≡ purge_status_and_reason count }
     {
         StatusAndReason {
             status: 204,
@@ -69,15 +69,15 @@ impl StatusAndReason {
 
 /// Adds what a reply tells, as a line of a log has it: the parameters of its member of Cache-Status, the text of
 /// Refusal, or the line of Purged. Its only error is out of memory.
-pub fn push_reason(out: &mut Vec<u8>, told: &Told) -> Result<(), AllocError>
-    ensures ok { OnOk result (out.new.items ≡ out.old.items ++ reason_text told.now) }
-    ensures full { OnErr result (vec_capacity out.old < length out.old.items + length (reason_text told.now)) }
+pub fn push_reply_reason_text(out: &mut Vec<u8>, told: &Told) -> Result<(), AllocError>
+    ensures ok { OnOk result (out.new.items ≡ out.old.items ++ reply_reason_text told.now) }
+    ensures full { OnErr result (vec_capacity out.old < length out.old.items + length (reply_reason_text told.now)) }
     ensures capacity { vec_capacity out.old ≤ vec_capacity out.new }
     ensures front { take (length out.old.items) out.new.items ≡ out.old.items }
 {
     match told {
-        Told::Handled(status) => push_handled(out, status),
-        Told::Refused(cause) => push_refusal(out, *cause),
+        Told::Handled(status) => push_status_parameters(out, status),
+        Told::Refused(cause) => push_refusal_text(out, *cause),
         Told::Purged(count) => {
             let mut digits = Buffer::new();
             out.extend_from_slice(b"Purged: ")?;

@@ -5,7 +5,7 @@ ghost use Rattle.std.specs.Fmt.{decimal, signed_decimal};
 ghost use Rattle.hx_reuse.specs.RuleNames.{reuse_rule_reason, reuse_rule_detail};
 ghost use Rattle.hx_status.specs.Member.{member_text, hit_or_forward_text, fwd_status_text, ttl_text, text_if_flag};
 ghost use Rattle.hx_status.specs.Abouts.{cache_status_parameters_text, handling_text};
-ghost use Rattle.hx_status.specs.Member.{detail_word_text};
+ghost use Rattle.hx_status.specs.Member.{parameter_of_detail_word};
 ghost use Rattle.hx_status.specs.Member.{detail_of_step_or_rule, detail_of_status, detail_word, not_stored_word};
 
 use crate::status::{Detail, How, Status};
@@ -154,9 +154,9 @@ fn not_stored_word(rule: StoreRule) -> &'static str
 
 /// Adds `;detail=WORD` where there is one.
 pub(crate) fn push_detail(out: &mut Vec<u8>, word: Option<&'static str>) -> Result<(), AllocError>
-    ensures ok { OnOk result (out.new.items ≡ out.old.items ++ detail_word_text (option_copied word.entry)) }
+    ensures ok { OnOk result (out.new.items ≡ out.old.items ++ parameter_of_detail_word (option_copied word.entry)) }
     ensures full { OnErr result (vec_capacity out.old < length out.old.items
-        + length (detail_word_text (option_copied word.entry))) }
+        + length (parameter_of_detail_word (option_copied word.entry))) }
     ensures capacity { vec_capacity out.old ≤ vec_capacity out.new }
     ensures front { take (length out.old.items) out.new.items ≡ out.old.items }
 {
@@ -185,7 +185,7 @@ pub fn member(alloc: Global, name: &str, status: &Status) -> Result<Bytes, Alloc
 }
 
 /// Adds the parameters of a member, with no semicolon in front.
-pub(crate) fn push_handled(out: &mut Vec<u8>, status: &Status) -> Result<(), AllocError>
+pub(crate) fn push_status_parameters(out: &mut Vec<u8>, status: &Status) -> Result<(), AllocError>
     ensures ok { OnOk result (out.new.items ≡ out.old.items ++ cache_status_parameters_text status.now) }
     ensures full { OnErr result (vec_capacity out.old < length out.old.items
         + length (cache_status_parameters_text status.now)) }

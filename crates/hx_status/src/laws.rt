@@ -7,12 +7,12 @@ ghost use Rattle.hx_status.specs.Refusals.{OnlyALoopHas508};
 ghost use Rattle.hx_status.specs.Refusals.{WordsOfTargetFaultsDiffer, TextsOfReuseRulesDiffer, DenialByTheTableHas403};
 
 pub use crate::worked_cases::{
-    bypass_rules_in_order, least_reuse_rule, line_without_cache, no_lifetime_is_only_validated,
-    second_request_waits, stale_if_error_of_request, stale_if_error_of_response,
-    stale_while_revalidate, worked_not_stored_details, worked_statuses_of_frame_faults,
-    worked_statuses_of_origin_failures, worked_statuses_of_target_faults,
-    worked_stored_before_collapsed, worked_texts, worked_texts_of_frame_faults,
-    worked_texts_of_target_faults,
+    line_without_cache, stale_if_error_of_response, worked_collapsed_answer_text,
+    worked_least_reuse_rules, worked_not_stored_details, worked_stale_if_error_of_request,
+    worked_statuses_of_frame_faults, worked_statuses_of_origin_failures,
+    worked_statuses_of_target_faults, worked_stored_is_spelled_before_collapsed,
+    worked_text_while_revalidating, worked_texts, worked_texts_after_validation,
+    worked_texts_of_bypass_rules, worked_texts_of_frame_faults, worked_texts_of_target_faults,
 };
 
 /// No two reuse rules are named by the same text, in a refusal as in Cache-Status.

@@ -13,9 +13,9 @@ mod question;
 mod status;
 mod worked_cases;
 
-pub use crate::about::{ReplyData, StatusAndReason, Told, push_reason};
+pub use crate::about::{ReplyData, StatusAndReason, Told, push_reply_reason_text};
 pub use crate::cache_status::member;
 pub use crate::cause::{Cause, FailKind};
 pub use crate::own_replies::refusal;
-pub use crate::question::{AskedTarget, Question};
+pub use crate::question::{AskedTarget, MethodAndTarget};
 pub use crate::status::{Detail, How, Status};

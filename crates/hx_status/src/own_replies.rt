@@ -163,7 +163,7 @@ fn push_origin_failure(
 }
 
 /// Adds the text of Refusal.
-pub(crate) fn push_refusal(out: &mut Vec<u8>, cause: Cause) -> Result<(), AllocError>
+pub(crate) fn push_refusal_text(out: &mut Vec<u8>, cause: Cause) -> Result<(), AllocError>
     ensures ok { OnOk result (out.new.items ≡ out.old.items ++ refusal_text cause) }
     ensures full { OnErr result (vec_capacity out.old < length out.old.items + length (refusal_text cause)) }
     ensures capacity { vec_capacity out.old ≤ vec_capacity out.new }
@@ -200,7 +200,7 @@ fn refusal_text(alloc: Global, cause: Cause) -> Result<Bytes, AllocError>
     ensures { IfOk result (λ text. text ≡ refusal_text cause) }
 {
     let mut out = Vec::new(alloc);
-    push_refusal(&mut out, cause)?;
+    push_refusal_text(&mut out, cause)?;
     Ok(Bytes::from_vec(out))
 }
 

@@ -15,7 +15,7 @@ pub enum AskedTarget {
 
 /// What a client asked for: the words of its request that name it.
 #[derive(Drop)]
-pub struct Question {
+pub struct MethodAndTarget {
     /// Methods compare with their case (RFC 9110, section 9.1).
     pub method: Method,
     pub target: AskedTarget,

@@ -40,7 +40,7 @@ pub fn worked_texts()
 {}
 
 /// Stale by five seconds, while a GET is at the origin for it.
-pub fn stale_while_revalidate()
+pub fn worked_text_while_revalidating()
     ensures { member_text (codes "edge") (record {
       how = Hit;
       fwd_status = None;
@@ -53,7 +53,7 @@ pub fn stale_while_revalidate()
 {}
 
 /// Content, a range, a precondition.
-pub fn bypass_rules_in_order()
+pub fn worked_texts_of_bypass_rules()
     ensures content { member_text (codes "edge") (answer_passed_on rule.Content) ≡ codes "edge;fwd=bypass;detail=content" }
     ensures range { member_text (codes "edge") (answer_passed_on rule.Range) ≡ codes "edge;fwd=bypass;detail=range" }
     ensures precondition { member_text (codes "edge") (answer_passed_on rule.Precondition) ≡ codes "edge;fwd=bypass;detail=precondition" }
@@ -69,7 +69,7 @@ pub fn line_without_cache()
 {}
 
 /// The least rule where several stand, and what only the origin could answer.
-pub fn least_reuse_rule()
+pub fn worked_least_reuse_rules()
     ensures response_no_cache { member_text (codes "edge") (answer_passed_on rule.ResponseNoCache) ≡ codes "edge;fwd=stale;detail=response-no-cache" }
     ensures request_no_cache { member_text (codes "edge") (answer_passed_on rule.RequestNoCache) ≡ codes "edge;fwd=request;detail=no-cache" }
     ensures must_revalidate { member_text (codes "edge") (answer_passed_on rule.MustRevalidate) ≡ codes "edge;fwd=stale;detail=must-revalidate" }
@@ -79,7 +79,7 @@ pub fn least_reuse_rule()
 {}
 
 /// A 304 of the origin freshens what states no lifetime, and one that validates nothing leads to what is held.
-pub fn no_lifetime_is_only_validated()
+pub fn worked_texts_after_validation()
     ensures stored { member_text (codes "edge") (answer_passed_on_and_stored rule.UriMiss (pos 0)) ≡ codes "edge;fwd=uri-miss;ttl=0;stored" }
     ensures freshened { member_text (codes "edge") (stored_sent_after_forward rule.NoLifetime (Some 304)
         (Some (pos 0)) None)
@@ -102,7 +102,7 @@ pub fn stale_if_error_of_response()
 {}
 
 /// By the request's; a time-out is told from other failures by its status.
-pub fn stale_if_error_of_request()
+pub fn worked_stale_if_error_of_request()
     ensures sent { member_text (codes "edge") (stored_sent_after_forward rule.NoMaxStale None (Some (negsuc 9))
         (Some StaleIfError)) ≡ codes "edge;fwd=stale;ttl=-10;detail=stale-if-error" }
     ensures no_directive { refusal_text (Origin TimedOut rule.NoMaxStale (Some on_error.NoDirective)) ≡ codes "origin timed-out;fwd=stale;stale-if-error=no-directive" }
@@ -112,7 +112,7 @@ pub fn stale_if_error_of_request()
 {}
 
 /// The answer to a request that waited for another's.
-pub fn second_request_waits()
+pub fn worked_collapsed_answer_text()
     ensures { member_text (codes "edge") (record {
       how = Fwd rule.UriMiss;
       fwd_status = None;
@@ -125,7 +125,7 @@ pub fn second_request_waits()
 {}
 
 /// A stored answer of a request that others waited for: stored comes before collapsed.
-pub fn worked_stored_before_collapsed()
+pub fn worked_stored_is_spelled_before_collapsed()
     ensures { member_text (codes "edge") (record {
       how = Fwd rule.UriMiss;
       fwd_status = None;

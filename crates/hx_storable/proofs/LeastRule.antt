@@ -6,8 +6,8 @@ use Rattle.hx_hop.specs.declared.response_view.Answered.{Answered}
 use Rattle.hx_storable.specs.declared.known_facts.StoringFacts.{StoringFacts}
 use Rattle.hx_storable.specs.declared.rule.StoreRule.{StoreRule}
 use Rattle.hx_storable.specs.declared.rule.StoreRule.TheVariants.{Operator, Method, Bypass, Status, MustUnderstand, ResponseNoStore, RequestNoStore, Private, Authorization, NothingAllows, VaryStar, ConnectionField, NothingToReuse, TooLarge, Overtaken, Serials, SetCookie, ErrorStatus, RequestCookie}
-use Rattle.hx_storable.specs.Rules.{storing_rule_applies, storing_rule_number, storage_rules, storage_rule_of}
-use Rattle.hx_storable.specs.Storable.{IsLeastStoringRule, ResponseIsStored}
+use Rattle.hx_storable.specs.Rules.{storing_rule_applies, storing_rule_number, storage_rules, rule_against_storing}
+use Rattle.hx_storable.specs.Storable.{IsLeastRuleAgainstStoring, ResponseIsStored}
 use Rattle.hx_fields.proofs.FirstThat.{IsMember, ascends, passes, fails_before, none_passes, none_found, first_found}
 
 -- each rule is in the table
@@ -37,23 +37,23 @@ unfolding ascends
 in_order = refl
 
 module _ (asked : Asked) (answered : Answered) (facts : StoringFacts) where
-  pub rule_is_least : (least : StoreRule) → storage_rule_of asked answered facts ≡ Some least → IsLeastStoringRule asked answered facts least
-  unfolding storage_rule_of
+  pub rule_is_least : (least : StoreRule) → rule_against_storing asked answered facts ≡ Some least → IsLeastRuleAgainstStoring asked answered facts least
+  unfolding rule_against_storing
   rule_is_least least h =
       record {
         rule_applies = passes storing_rule_number (λ r. storing_rule_applies r asked answered facts) storage_rules least h;
         none_before = λ r l. fails_before storing_rule_number (λ r. storing_rule_applies r asked answered facts) 0 storage_rules least r in_order h (listed r) l;
       }
 
-  pub least_is_rule : (least : StoreRule) → IsLeastStoringRule asked answered facts least → storage_rule_of asked answered facts ≡ Some least
-  unfolding storage_rule_of
+  pub least_is_rule : (least : StoreRule) → IsLeastRuleAgainstStoring asked answered facts least → rule_against_storing asked answered facts ≡ Some least
+  unfolding rule_against_storing
   least_is_rule least is =
       first_found storing_rule_number (λ r. storing_rule_applies r asked answered facts) 0 storage_rules least in_order (listed least) is.rule_applies is.none_before
 
   pub no_rule_applies : (any : StoreRule) → ResponseIsStored asked answered facts → storing_rule_applies any asked answered facts ≡ false
-  unfolding storage_rule_of
+  unfolding rule_against_storing
   no_rule_applies any h = none_passes storing_rule_number (λ r. storing_rule_applies r asked answered facts) storage_rules any h (listed any)
 
   pub no_rule_found : ((any : StoreRule) → storing_rule_applies any asked answered facts ≡ false) → ResponseIsStored asked answered facts
-  unfolding storage_rule_of
+  unfolding rule_against_storing
   no_rule_found none = none_found storing_rule_number (λ r. storing_rule_applies r asked answered facts) storage_rules none

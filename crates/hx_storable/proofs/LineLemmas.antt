@@ -10,9 +10,9 @@ use Rattle.hx_policy.specs.Policies.{is_heuristic_status, lifetime_given_by_poli
 use Rattle.hx_storable.specs.declared.known_facts.StoringFacts.{StoringFacts}
 use Rattle.hx_storable.specs.declared.rule.StoreRule.{StoreRule}
 use Rattle.hx_storable.specs.declared.rule.StoreRule.TheVariants.{Operator, SetCookie, ErrorStatus, RequestCookie}
-use Rattle.hx_storable.specs.Rules.{response_has, has_cookie_for_one, is_error_not_heuristically_cacheable, request_has_cookie_or_authorization, response_states_lifetime, has_lifetime_only_by_policy, policy_forbids_set_cookie, storing_rule_applies, storage_rules_of_policy, storage_rule_of}
+use Rattle.hx_storable.specs.Rules.{response_has_directive, sets_cookie_without_public, is_error_not_heuristically_cacheable, request_has_cookie_or_authorization, response_states_lifetime, has_lifetime_only_by_policy, policy_forbids_set_cookie, storing_rule_applies, storage_rules_from_policy, rule_against_storing}
 use Rattle.hx_storable.specs.Storable.{RequestHasNoCookieOrAuthorization, ResponseStatesItsLifetime, PolicyAllowsStoring, ResponseIsStored}
-use Rattle.hx_storable.specs.LineWordsInStoring.{ResponseStatesNoLifetime, facts_with_policy, default_policy_but_for_ranges, storage_rules_without_policy}
+use Rattle.hx_storable.specs.LineWordsInStoring.{ResponseStatesNoLifetime, facts_with_policy, default_policy_but_for_ranges, storage_rules_not_from_policy}
 use Rattle.hx_fields.proofs.JoinedTests.{never, not_false, not_true, left_false, right_false, neither, one_of, or_left, or_right, first_absent, last_absent, either_false}
 use Rattle.hx_storable.proofs.Joined.{find_before}
 use Rattle.hx_storable.proofs.LeastRule.{no_rule_applies, no_rule_found}
@@ -44,8 +44,8 @@ module _ (asked : Asked) (answered : Answered) (facts : StoringFacts) where
   module _ (none : (any : StoreRule) → storing_rule_applies any asked answered facts ≡ false) where
     pub within_the_words : PolicyAllowsStoring asked answered facts.policy
     within_the_words = record {
-      cookies = cookies (either_false (policy_forbids_set_cookie facts.policy answered) (has_cookie_for_one answered) (none SetCookie));
-      set_cookie_lifetimes = lifetimes (either_false (policy_forbids_set_cookie facts.policy answered) (has_cookie_for_one answered) (none SetCookie));
+      cookies = cookies (either_false (policy_forbids_set_cookie facts.policy answered) (sets_cookie_without_public answered) (none SetCookie));
+      set_cookie_lifetimes = lifetimes (either_false (policy_forbids_set_cookie facts.policy answered) (sets_cookie_without_public answered) (none SetCookie));
       errors = errors (either_false (not facts.policy.stores_errors) (is_error_not_heuristically_cacheable answered.status) (none ErrorStatus));
       requests_with_cookies = given (either_false (not facts.policy.gives_to_cookies && request_has_cookie_or_authorization asked) (has_lifetime_only_by_policy facts.policy answered && not public) (none RequestCookie));
     }
@@ -54,7 +54,7 @@ module _ (asked : Asked) (answered : Answered) (facts : StoringFacts) where
         cookie = has_line answered.fields (codes "Set-Cookie")
 
         public : Bool
-        public = response_has answered directive.Public
+        public = response_has_directive answered directive.Public
 
         for_all : (cookie ≡ false) ⊎ (not public ≡ false) → (cookie ≡ false) ⊎ (public ≡ true)
         for_all (inl absent) = inl absent
@@ -66,7 +66,7 @@ module _ (asked : Asked) (answered : Answered) (facts : StoringFacts) where
         by_the_line : Bool
         by_the_line = not facts.policy.gives_to_set_cookie && has_lifetime_only_by_policy facts.policy answered
 
-        cookies : (policy_forbids_set_cookie facts.policy answered ≡ false) ⊎ (has_cookie_for_one answered ≡ false) → (facts.policy.stores_cookies ≡ true) ⊎ ((cookie ≡ false) ⊎ (public ≡ true))
+        cookies : (policy_forbids_set_cookie facts.policy answered ≡ false) ⊎ (sets_cookie_without_public answered ≡ false) → (facts.policy.stores_cookies ≡ true) ⊎ ((cookie ≡ false) ⊎ (public ≡ true))
         cookies (inl h) = inl (not_false facts.policy.stores_cookies (left_false stored_anyway by_the_line h))
         cookies (inr h) = inr (for_all (either_false cookie (not public) h))
 
@@ -85,14 +85,14 @@ module _ (asked : Asked) (answered : Answered) (facts : StoringFacts) where
         )
 
         by_itself : response_states_lifetime answered ≡ true → ResponseStatesItsLifetime answered
-        by_itself h = first (one_of (response_has answered directive.SMaxage || response_has answered directive.MaxAge) (has_line answered.fields (codes "Expires")) h)
+        by_itself h = first (one_of (response_has_directive answered directive.SMaxage || response_has_directive answered directive.MaxAge) (has_line answered.fields (codes "Expires")) h)
           where
-            second : (response_has answered directive.SMaxage ≡ true) ⊎ (response_has answered directive.MaxAge ≡ true) → ResponseStatesItsLifetime answered
+            second : (response_has_directive answered directive.SMaxage ≡ true) ⊎ (response_has_directive answered directive.MaxAge ≡ true) → ResponseStatesItsLifetime answered
             second (inl k) = inl k
             second (inr k) = inr (inl k)
 
-            first : (response_has answered directive.SMaxage || response_has answered directive.MaxAge ≡ true) ⊎ (has_line answered.fields (codes "Expires") ≡ true) → ResponseStatesItsLifetime answered
-            first (inl k) = second (one_of (response_has answered directive.SMaxage) (response_has answered directive.MaxAge) k)
+            first : (response_has_directive answered directive.SMaxage || response_has_directive answered directive.MaxAge ≡ true) ⊎ (has_line answered.fields (codes "Expires") ≡ true) → ResponseStatesItsLifetime answered
+            first (inl k) = second (one_of (response_has_directive answered directive.SMaxage) (response_has_directive answered directive.MaxAge) k)
             first (inr k) = inr (inr k)
 
         own_or_none : (not (response_states_lifetime answered) ≡ false) ⊎ (is_some (lifetime_given_by_policy facts.policy answered.status) ≡ false) → ResponseStatesItsLifetime answered ⊎ (lifetime_given_by_policy facts.policy answered.status ≡ None)
@@ -102,7 +102,7 @@ module _ (asked : Asked) (answered : Answered) (facts : StoringFacts) where
         OfCookies : Type 0
         OfCookies = (facts.policy.gives_to_set_cookie ≡ true) ⊎ ((cookie ≡ false) ⊎ ((public ≡ true) ⊎ (ResponseStatesItsLifetime answered ⊎ (lifetime_given_by_policy facts.policy answered.status ≡ None))))
 
-        lifetimes : (policy_forbids_set_cookie facts.policy answered ≡ false) ⊎ (has_cookie_for_one answered ≡ false) → OfCookies
+        lifetimes : (policy_forbids_set_cookie facts.policy answered ≡ false) ⊎ (sets_cookie_without_public answered ≡ false) → OfCookies
         lifetimes (inl h) = by_line (either_false (not facts.policy.gives_to_set_cookie) (has_lifetime_only_by_policy facts.policy answered) (right_false stored_anyway by_the_line h))
           where
             by_line : (not facts.policy.gives_to_set_cookie ≡ false) ⊎ (has_lifetime_only_by_policy facts.policy answered ≡ false) → OfCookies
@@ -127,12 +127,12 @@ module _ (asked : Asked) (answered : Answered) (facts : StoringFacts) where
         given (inr h) = inr (inr (lasting (either_false (has_lifetime_only_by_policy facts.policy answered) (not public) h)))
 
   itself_states : ResponseStatesItsLifetime answered → response_states_lifetime answered ≡ true
-  itself_states (inl h) = or_left (response_has answered directive.SMaxage || response_has answered directive.MaxAge) (has_line answered.fields (codes "Expires")) (or_left (response_has answered directive.SMaxage) (response_has answered directive.MaxAge) h)
-  itself_states (inr (inl h)) = or_left (response_has answered directive.SMaxage || response_has answered directive.MaxAge) (has_line answered.fields (codes "Expires")) (or_right (response_has answered directive.SMaxage) (response_has answered directive.MaxAge) h)
-  itself_states (inr (inr h)) = or_right (response_has answered directive.SMaxage || response_has answered directive.MaxAge) (has_line answered.fields (codes "Expires")) h
+  itself_states (inl h) = or_left (response_has_directive answered directive.SMaxage || response_has_directive answered directive.MaxAge) (has_line answered.fields (codes "Expires")) (or_left (response_has_directive answered directive.SMaxage) (response_has_directive answered directive.MaxAge) h)
+  itself_states (inr (inl h)) = or_left (response_has_directive answered directive.SMaxage || response_has_directive answered directive.MaxAge) (has_line answered.fields (codes "Expires")) (or_right (response_has_directive answered directive.SMaxage) (response_has_directive answered directive.MaxAge) h)
+  itself_states (inr (inr h)) = or_right (response_has_directive answered directive.SMaxage || response_has_directive answered directive.MaxAge) (has_line answered.fields (codes "Expires")) h
 
-  pub cookie_applies : (facts.policy.stores_cookies ≡ true) ⊎ ((has_line answered.fields (codes "Set-Cookie") ≡ false) ⊎ (response_has answered directive.Public ≡ true))
-      → (facts.policy.gives_to_set_cookie ≡ true) ⊎ ((has_line answered.fields (codes "Set-Cookie") ≡ false) ⊎ ((response_has answered directive.Public ≡ true) ⊎ (ResponseStatesItsLifetime answered ⊎ (lifetime_given_by_policy facts.policy answered.status ≡ None))))
+  pub cookie_applies : (facts.policy.stores_cookies ≡ true) ⊎ ((has_line answered.fields (codes "Set-Cookie") ≡ false) ⊎ (response_has_directive answered directive.Public ≡ true))
+      → (facts.policy.gives_to_set_cookie ≡ true) ⊎ ((has_line answered.fields (codes "Set-Cookie") ≡ false) ⊎ ((response_has_directive answered directive.Public ≡ true) ⊎ (ResponseStatesItsLifetime answered ⊎ (lifetime_given_by_policy facts.policy answered.status ≡ None))))
       → storing_rule_applies SetCookie asked answered facts ≡ false
   cookie_applies stores gives = at stores gives
     where
@@ -143,13 +143,13 @@ module _ (asked : Asked) (answered : Answered) (facts : StoringFacts) where
       cookie = has_line answered.fields (codes "Set-Cookie")
 
       public : Bool
-      public = response_has answered directive.Public
+      public = response_has_directive answered directive.Public
 
       lasts : Bool
       lasts = has_lifetime_only_by_policy facts.policy answered
 
-      for_all : has_cookie_for_one answered ≡ false → storing_rule_applies SetCookie asked answered facts ≡ false
-      for_all h = last_absent withholds (has_cookie_for_one answered) h
+      for_all : sets_cookie_without_public answered ≡ false → storing_rule_applies SetCookie asked answered facts ≡ false
+      for_all h = last_absent withholds (sets_cookie_without_public answered) h
 
       by_absence : cookie ≡ false → storing_rule_applies SetCookie asked answered facts ≡ false
       by_absence h = for_all (first_absent cookie (not public) h)
@@ -158,7 +158,7 @@ module _ (asked : Asked) (answered : Answered) (facts : StoringFacts) where
       by_public h = for_all (last_absent cookie (not public) (not_true public h))
 
       by_line : facts.policy.stores_cookies ≡ true → not facts.policy.gives_to_set_cookie && lasts ≡ false → storing_rule_applies SetCookie asked answered facts ≡ false
-      by_line h k = first_absent withholds (has_cookie_for_one answered) (neither (not facts.policy.stores_cookies) (not facts.policy.gives_to_set_cookie && lasts) (not_true facts.policy.stores_cookies h) k)
+      by_line h k = first_absent withholds (sets_cookie_without_public answered) (neither (not facts.policy.stores_cookies) (not facts.policy.gives_to_set_cookie && lasts) (not_true facts.policy.stores_cookies h) k)
 
       by_lasting : facts.policy.stores_cookies ≡ true → lasts ≡ false → storing_rule_applies SetCookie asked answered facts ≡ false
       by_lasting h k = by_line h (last_absent (not facts.policy.gives_to_set_cookie) lasts k)
@@ -183,7 +183,7 @@ module _ (asked : Asked) (answered : Answered) (facts : StoringFacts) where
       last_absent (not facts.policy.stores_errors) (is_error_not_heuristically_cacheable answered.status)
       (last_absent (nat_le 400 answered.status) (not (is_heuristic_status answered.status)) (not_true (is_heuristic_status answered.status) heuristic))
 
-  pub request_cookie_applies : (facts.policy.gives_to_cookies ≡ true) ⊎ (RequestHasNoCookieOrAuthorization asked ⊎ ((response_has answered directive.Public ≡ true) ⊎ (ResponseStatesItsLifetime answered ⊎ (lifetime_given_by_policy facts.policy answered.status ≡ None)))) → storing_rule_applies RequestCookie asked answered facts ≡ false
+  pub request_cookie_applies : (facts.policy.gives_to_cookies ≡ true) ⊎ (RequestHasNoCookieOrAuthorization asked ⊎ ((response_has_directive answered directive.Public ≡ true) ⊎ (ResponseStatesItsLifetime answered ⊎ (lifetime_given_by_policy facts.policy answered.status ≡ None)))) → storing_rule_applies RequestCookie asked answered facts ≡ false
   request_cookie_applies says_so = at says_so
     where
       asks : Bool
@@ -193,7 +193,7 @@ module _ (asked : Asked) (answered : Answered) (facts : StoringFacts) where
       lasts = has_lifetime_only_by_policy facts.policy answered
 
       public : Bool
-      public = response_has answered directive.Public
+      public = response_has_directive answered directive.Public
 
       by_asking : asks ≡ false → storing_rule_applies RequestCookie asked answered facts ≡ false
       by_asking h = first_absent asks (lasts && not public) h
@@ -216,33 +216,33 @@ module _ (asked : Asked) (answered : Answered) (facts : StoringFacts) where
   tells_who (inr h) = or_right (has_line asked.fields (codes "Cookie")) (has_line asked.fields (codes "Authorization")) h
 
   pub request_cookie_forbids : (seconds : ℕ) → facts.policy.gives_to_cookies ≡ false → (has_line asked.fields (codes "Cookie") ≡ true) ⊎ (has_line asked.fields (codes "Authorization") ≡ true) → ResponseStatesNoLifetime answered
-      → lifetime_given_by_policy facts.policy answered.status ≡ Some seconds → response_has answered directive.Public ≡ false → ResponseIsStored asked answered facts → ⊥
+      → lifetime_given_by_policy facts.policy answered.status ≡ Some seconds → response_has_directive answered directive.Public ≡ false → ResponseIsStored asked answered facts → ⊥
   request_cookie_forbids seconds word who none given public h =
       let stated : response_states_lifetime answered ≡ false =
-      neither (response_has answered directive.SMaxage || response_has answered directive.MaxAge) (has_line answered.fields (codes "Expires"))
-      (neither (response_has answered directive.SMaxage) (response_has answered directive.MaxAge) none.0 none.1) none.2 in
+      neither (response_has_directive answered directive.SMaxage || response_has_directive answered directive.MaxAge) (has_line answered.fields (codes "Expires"))
+      (neither (response_has_directive answered directive.SMaxage) (response_has_directive answered directive.MaxAge) none.0 none.1) none.2 in
       let asks = both (not facts.policy.gives_to_cookies) (request_has_cookie_or_authorization asked) (turned facts.policy.gives_to_cookies word) (tells_who who) in
       let lasts = both (not (response_states_lifetime answered)) (is_some (lifetime_given_by_policy facts.policy answered.status)) (turned (response_states_lifetime answered) stated) (rw given refl) in
-      let for_one = both (has_lifetime_only_by_policy facts.policy answered) (not (response_has answered directive.Public)) lasts (turned (response_has answered directive.Public) public) in
-      never (sym (both (not facts.policy.gives_to_cookies && request_has_cookie_or_authorization asked) (has_lifetime_only_by_policy facts.policy answered && not (response_has answered directive.Public)) asks for_one) ∙ no_rule_applies asked answered facts RequestCookie h)
+      let for_one = both (has_lifetime_only_by_policy facts.policy answered) (not (response_has_directive answered directive.Public)) lasts (turned (response_has_directive answered directive.Public) public) in
+      never (sym (both (not facts.policy.gives_to_cookies && request_has_cookie_or_authorization asked) (has_lifetime_only_by_policy facts.policy answered && not (response_has_directive answered directive.Public)) asks for_one) ∙ no_rule_applies asked answered facts RequestCookie h)
 
-  pub cookie_forbids : facts.policy.stores_cookies ≡ false → has_line answered.fields (codes "Set-Cookie") ≡ true → response_has answered directive.Public ≡ false → ResponseIsStored asked answered facts → ⊥
+  pub cookie_forbids : facts.policy.stores_cookies ≡ false → has_line answered.fields (codes "Set-Cookie") ≡ true → response_has_directive answered directive.Public ≡ false → ResponseIsStored asked answered facts → ⊥
   cookie_forbids word cookie public h =
-      let for_one = both (has_line answered.fields (codes "Set-Cookie")) (not (response_has answered directive.Public)) cookie (turned (response_has answered directive.Public) public) in
+      let for_one = both (has_line answered.fields (codes "Set-Cookie")) (not (response_has_directive answered directive.Public)) cookie (turned (response_has_directive answered directive.Public) public) in
       let withheld = or_left (not facts.policy.stores_cookies) (not facts.policy.gives_to_set_cookie && has_lifetime_only_by_policy facts.policy answered) (turned facts.policy.stores_cookies word) in
-      never (sym (both (policy_forbids_set_cookie facts.policy answered) (has_cookie_for_one answered) withheld for_one) ∙ no_rule_applies asked answered facts SetCookie h)
+      never (sym (both (policy_forbids_set_cookie facts.policy answered) (sets_cookie_without_public answered) withheld for_one) ∙ no_rule_applies asked answered facts SetCookie h)
 
   pub cookie_is_given_none : (seconds : ℕ) → facts.policy.gives_to_set_cookie ≡ false → has_line answered.fields (codes "Set-Cookie") ≡ true → ResponseStatesNoLifetime answered
-      → lifetime_given_by_policy facts.policy answered.status ≡ Some seconds → response_has answered directive.Public ≡ false → ResponseIsStored asked answered facts → ⊥
+      → lifetime_given_by_policy facts.policy answered.status ≡ Some seconds → response_has_directive answered directive.Public ≡ false → ResponseIsStored asked answered facts → ⊥
   cookie_is_given_none seconds word cookie none given public h =
       let stated : response_states_lifetime answered ≡ false =
-      neither (response_has answered directive.SMaxage || response_has answered directive.MaxAge) (has_line answered.fields (codes "Expires"))
-      (neither (response_has answered directive.SMaxage) (response_has answered directive.MaxAge) none.0 none.1) none.2 in
+      neither (response_has_directive answered directive.SMaxage || response_has_directive answered directive.MaxAge) (has_line answered.fields (codes "Expires"))
+      (neither (response_has_directive answered directive.SMaxage) (response_has_directive answered directive.MaxAge) none.0 none.1) none.2 in
       let lasts = both (not (response_states_lifetime answered)) (is_some (lifetime_given_by_policy facts.policy answered.status)) (turned (response_states_lifetime answered) stated) (rw given refl) in
-      let for_one = both (has_line answered.fields (codes "Set-Cookie")) (not (response_has answered directive.Public)) cookie (turned (response_has answered directive.Public) public) in
+      let for_one = both (has_line answered.fields (codes "Set-Cookie")) (not (response_has_directive answered directive.Public)) cookie (turned (response_has_directive answered directive.Public) public) in
       let by_line = both (not facts.policy.gives_to_set_cookie) (has_lifetime_only_by_policy facts.policy answered) (turned facts.policy.gives_to_set_cookie word) lasts in
       let withheld = or_right (not facts.policy.stores_cookies) (not facts.policy.gives_to_set_cookie && has_lifetime_only_by_policy facts.policy answered) by_line in
-      never (sym (both (policy_forbids_set_cookie facts.policy answered) (has_cookie_for_one answered) withheld for_one) ∙ no_rule_applies asked answered facts SetCookie h)
+      never (sym (both (policy_forbids_set_cookie facts.policy answered) (sets_cookie_without_public answered) withheld for_one) ∙ no_rule_applies asked answered facts SetCookie h)
 
   pub error_forbids : facts.policy.stores_errors ≡ false → 400 ≤ answered.status → is_heuristic_status answered.status ≡ false → ResponseIsStored asked answered facts → ⊥
   error_forbids word high other h =
@@ -270,6 +270,6 @@ module _ (asked : Asked) (answered : Answered) (facts : StoringFacts) where
   stored_with_words h within =
       no_rule_found asked answered facts (words_none (λ any. no_rule_applies asked answered (facts_with_policy facts (default_policy_but_for_ranges facts.policy.caches facts.policy)) any h) within)
 
-  pub plain_asks_the_others : (caches : Bool) → storage_rule_of asked answered (facts_with_policy facts (plain caches)) ≡ find (λ rule. storing_rule_applies rule asked answered (facts_with_policy facts (plain caches))) storage_rules_without_policy
-  unfolding storage_rule_of
-  plain_asks_the_others caches = find_before (λ rule. storing_rule_applies rule asked answered (facts_with_policy facts (plain caches))) storage_rules_without_policy storage_rules_of_policy refl
+  pub plain_asks_the_others : (caches : Bool) → rule_against_storing asked answered (facts_with_policy facts (plain caches)) ≡ find (λ rule. storing_rule_applies rule asked answered (facts_with_policy facts (plain caches))) storage_rules_not_from_policy
+  unfolding rule_against_storing
+  plain_asks_the_others caches = find_before (λ rule. storing_rule_applies rule asked answered (facts_with_policy facts (plain caches))) storage_rules_not_from_policy storage_rules_from_policy refl

@@ -7,13 +7,13 @@ use Rattle.hx_directives.specs.Occurrences.{occurrences_of}
 use Rattle.hx_directives.specs.declared.names.Directive.TheVariants as directive
 use Rattle.hx_hop.specs.declared.request_view.Asked.{Asked}
 use Rattle.hx_hop.specs.declared.response_view.Answered.{Answered}
-use Rattle.hx_hop.specs.Bypass.{request_has_content, asks_for_range, has_precondition}
+use Rattle.hx_hop.specs.Bypass.{request_has_content, asks_for_range, has_precondition_for_origin}
 use Rattle.hx_storable.specs.declared.known_facts.StoringFacts.{StoringFacts}
 use Rattle.hx_storable.specs.declared.rule.StoreRule.{StoreRule}
 use Rattle.hx_storable.specs.declared.rule.StoreRule.TheVariants.{Operator, Method, Bypass, Status, MustUnderstand, ResponseNoStore, RequestNoStore, Private, Authorization, NothingAllows, VaryStar, ConnectionField, NothingToReuse, TooLarge, Overtaken, Serials, SetCookie, ErrorStatus, RequestCookie}
 use Rattle.hx_policy.specs.Policies.{is_heuristic_status}
-use Rattle.hx_storable.specs.Rules.{request_has_directive, response_has, is_answer_to_its_range_alone, is_understood_status, allows_authorized, response_allows_storing, storing_rule_applies}
-use Rattle.hx_storable.specs.Storable.{StatusIsFinal, StatusNeedsToBeUnderstood, NoStoreIsAbsentOrLifted, ResponseAllowsSharedWithAuthorization, ResponseAllowsStoring, RequestIsForTheStore, AnswerIsNotToItsRangeAlone, ResponseMayBeStored, ResponseIsStored}
+use Rattle.hx_storable.specs.Rules.{request_has_directive, response_has_directive, answer_may_depend_on_range, is_understood_status, allows_authorized, response_allows_storing, storing_rule_applies}
+use Rattle.hx_storable.specs.Storable.{StatusIsFinal, StatusNeedsToBeUnderstood, NoStoreIsAbsentOrLifted, ResponseAllowsSharedWithAuthorization, ResponseAllowsStoring, RequestAllowsStoring, AnswerDoesNotDependOnRange, ResponseMayBeStored, ResponseIsStored}
 use Rattle.hx_fields.proofs.JoinedTests.{never, not_false, not_true, left_false, right_false, neither, one_of, or_left, or_right, second_false, either_false, first_absent, last_absent, is_equal, not_equal, implied}
 use Rattle.hx_storable.proofs.LeastRule.{no_rule_applies, no_rule_found}
 use Rattle.hx_storable.proofs.LineLemmas.{turned, within_the_words, cookie_applies, error_applies, request_cookie_applies}
@@ -60,9 +60,9 @@ module _ (asked : Asked) (answered : Answered) (facts : StoringFacts) where
     pub not_a_304 : answered.status ≡ 304 → ⊥
     not_a_304 e = never (sym (is_equal answered.status 304 e) ∙ right_false (answered.status == 206) (answered.status == 304) (none Status))
 
-    must_be_understood : response_has answered directive.MustUnderstand ≡ true → is_understood_status answered.status ≡ true
+    must_be_understood : response_has_directive answered directive.MustUnderstand ≡ true → is_understood_status answered.status ≡ true
     must_be_understood must =
-        not_false (is_understood_status answered.status) (second_false (response_has answered directive.MustUnderstand) (not (is_understood_status answered.status)) must (none MustUnderstand))
+        not_false (is_understood_status answered.status) (second_false (response_has_directive answered directive.MustUnderstand) (not (is_understood_status answered.status)) must (none MustUnderstand))
 
     understood : StatusNeedsToBeUnderstood answered → is_understood_status answered.status ≡ true
     understood (inl part) = absurd (not_a_part part)
@@ -70,23 +70,23 @@ module _ (asked : Asked) (answered : Answered) (facts : StoringFacts) where
     understood (inr (inr must)) = must_be_understood must
 
     pub not_forbidden : NoStoreIsAbsentOrLifted answered
-    not_forbidden = at (either_false (response_has answered directive.NoStore) (not (response_has answered directive.MustUnderstand)) (none ResponseNoStore))
+    not_forbidden = at (either_false (response_has_directive answered directive.NoStore) (not (response_has_directive answered directive.MustUnderstand)) (none ResponseNoStore))
       where
-        at : (response_has answered directive.NoStore ≡ false) ⊎ (not (response_has answered directive.MustUnderstand) ≡ false) → NoStoreIsAbsentOrLifted answered
+        at : (response_has_directive answered directive.NoStore ≡ false) ⊎ (not (response_has_directive answered directive.MustUnderstand) ≡ false) → NoStoreIsAbsentOrLifted answered
         at (inl absent) = inl absent
-        at (inr lifted) = let must = not_false (response_has answered directive.MustUnderstand) lifted in inr (must, must_be_understood must)
+        at (inr lifted) = let must = not_false (response_has_directive answered directive.MustUnderstand) lifted in inr (must, must_be_understood must)
 
     pub shared_or_unauthorized : (has_line asked.fields (codes "Authorization") ≡ false) ⊎ ResponseAllowsSharedWithAuthorization answered
     shared_or_unauthorized = at (either_false (has_line asked.fields (codes "Authorization")) (not (allows_authorized (occurrences_of answered.fields))) (none Authorization))
       where
         must : Bool
-        must = response_has answered directive.MustRevalidate
+        must = response_has_directive answered directive.MustRevalidate
 
         public : Bool
-        public = response_has answered directive.Public
+        public = response_has_directive answered directive.Public
 
         shared : Bool
-        shared = response_has answered directive.SMaxage
+        shared = response_has_directive answered directive.SMaxage
 
         last : (must || public ≡ true) ⊎ (shared ≡ true) → ResponseAllowsSharedWithAuthorization answered
         last (inl h) = elim (one_of must public h) [ inl k ↦ inl k | inr k ↦ inr (inl k) ]
@@ -100,16 +100,16 @@ module _ (asked : Asked) (answered : Answered) (facts : StoringFacts) where
     allowed = first (one_of (((public || expires) || max_age) || shared) (is_heuristic_status answered.status) (not_false (response_allows_storing answered) (none NothingAllows)))
       where
         public : Bool
-        public = response_has answered directive.Public
+        public = response_has_directive answered directive.Public
 
         expires : Bool
         expires = has_line answered.fields (codes "Expires")
 
         max_age : Bool
-        max_age = response_has answered directive.MaxAge
+        max_age = response_has_directive answered directive.MaxAge
 
         shared : Bool
-        shared = response_has answered directive.SMaxage
+        shared = response_has_directive answered directive.SMaxage
 
         third : (public || expires ≡ true) ⊎ (max_age ≡ true) → ResponseAllowsStoring answered
         third (inl h) = elim (one_of public expires h) [ inl k ↦ inl k | inr k ↦ inr (inl k) ]
@@ -130,14 +130,14 @@ module _ (asked : Asked) (answered : Answered) (facts : StoringFacts) where
         at (inl h) = inl (not_false facts.explicit h)
         at (inr h) = inr (not_false facts.validator h)
 
-    no_bypass : RequestIsForTheStore asked answered facts.policy
+    no_bypass : RequestAllowsStoring asked answered facts.policy
     no_bypass =
-        let both = left_false (request_has_content asked || is_answer_to_its_range_alone facts.policy asked answered) (has_precondition asked) (none Bypass) in
+        let both = left_false (request_has_content asked || answer_may_depend_on_range facts.policy asked answered) (has_precondition_for_origin asked) (none Bypass) in
         record {
           is_get = is_get;
-          no_content = left_false (request_has_content asked) (is_answer_to_its_range_alone facts.policy asked answered) both;
-          no_range = not_for_its_range facts.policy.forwards_ranges (asks_for_range asked) answered.status (right_false (request_has_content asked) (is_answer_to_its_range_alone facts.policy asked answered) both);
-          no_precondition = right_false (request_has_content asked || is_answer_to_its_range_alone facts.policy asked answered) (has_precondition asked) (none Bypass);
+          no_content = left_false (request_has_content asked) (answer_may_depend_on_range facts.policy asked answered) both;
+          no_range = not_for_its_range facts.policy.forwards_ranges (asks_for_range asked) answered.status (right_false (request_has_content asked) (answer_may_depend_on_range facts.policy asked answered) both);
+          no_precondition = right_false (request_has_content asked || answer_may_depend_on_range facts.policy asked answered) (has_precondition_for_origin asked) (none Bypass);
         }
 
     may_be_stored : StatusIsFinal answered → ResponseMayBeStored asked answered facts
@@ -162,24 +162,24 @@ module _ (asked : Asked) (answered : Answered) (facts : StoringFacts) where
   -- ---- and back
 
   shared_is_allowed : ResponseAllowsSharedWithAuthorization answered → allows_authorized (occurrences_of answered.fields) ≡ true
-  shared_is_allowed (inl h) = or_left (response_has answered directive.MustRevalidate || response_has answered directive.Public) (response_has answered directive.SMaxage) (or_left (response_has answered directive.MustRevalidate) (response_has answered directive.Public) h)
-  shared_is_allowed (inr (inl h)) = or_left (response_has answered directive.MustRevalidate || response_has answered directive.Public) (response_has answered directive.SMaxage) (or_right (response_has answered directive.MustRevalidate) (response_has answered directive.Public) h)
-  shared_is_allowed (inr (inr h)) = or_right (response_has answered directive.MustRevalidate || response_has answered directive.Public) (response_has answered directive.SMaxage) h
+  shared_is_allowed (inl h) = or_left (response_has_directive answered directive.MustRevalidate || response_has_directive answered directive.Public) (response_has_directive answered directive.SMaxage) (or_left (response_has_directive answered directive.MustRevalidate) (response_has_directive answered directive.Public) h)
+  shared_is_allowed (inr (inl h)) = or_left (response_has_directive answered directive.MustRevalidate || response_has_directive answered directive.Public) (response_has_directive answered directive.SMaxage) (or_right (response_has_directive answered directive.MustRevalidate) (response_has_directive answered directive.Public) h)
+  shared_is_allowed (inr (inr h)) = or_right (response_has_directive answered directive.MustRevalidate || response_has_directive answered directive.Public) (response_has_directive answered directive.SMaxage) h
 
   storing_is_allowed : ResponseAllowsStoring answered → response_allows_storing answered ≡ true
   storing_is_allowed says_so = at says_so
     where
       public : Bool
-      public = response_has answered directive.Public
+      public = response_has_directive answered directive.Public
 
       expires : Bool
       expires = has_line answered.fields (codes "Expires")
 
       max_age : Bool
-      max_age = response_has answered directive.MaxAge
+      max_age = response_has_directive answered directive.MaxAge
 
       shared : Bool
-      shared = response_has answered directive.SMaxage
+      shared = response_has_directive answered directive.SMaxage
 
       heuristic : Bool
       heuristic = is_heuristic_status answered.status
@@ -194,9 +194,9 @@ module _ (asked : Asked) (answered : Answered) (facts : StoringFacts) where
       at (inr (inr (inr (inl h)))) = or_left (((public || expires) || max_age) || shared) heuristic (or_right ((public || expires) || max_age) shared h)
       at (inr (inr (inr (inr h)))) = or_right (((public || expires) || max_age) || shared) heuristic h
 
-  not_forbidden_applies : NoStoreIsAbsentOrLifted answered → response_has answered directive.NoStore && not (response_has answered directive.MustUnderstand) ≡ false
-  not_forbidden_applies (inl absent) = first_absent (response_has answered directive.NoStore) (not (response_has answered directive.MustUnderstand)) absent
-  not_forbidden_applies (inr lifted) = last_absent (response_has answered directive.NoStore) (not (response_has answered directive.MustUnderstand)) (not_true (response_has answered directive.MustUnderstand) lifted.0)
+  not_forbidden_applies : NoStoreIsAbsentOrLifted answered → response_has_directive answered directive.NoStore && not (response_has_directive answered directive.MustUnderstand) ≡ false
+  not_forbidden_applies (inl absent) = first_absent (response_has_directive answered directive.NoStore) (not (response_has_directive answered directive.MustUnderstand)) absent
+  not_forbidden_applies (inr lifted) = last_absent (response_has_directive answered directive.NoStore) (not (response_has_directive answered directive.MustUnderstand)) (not_true (response_has_directive answered directive.MustUnderstand) lifted.0)
 
   authorization_applies : (has_line asked.fields (codes "Authorization") ≡ false) ⊎ ResponseAllowsSharedWithAuthorization answered → has_line asked.fields (codes "Authorization") && not (allows_authorized (occurrences_of answered.fields)) ≡ false
   authorization_applies (inl absent) = first_absent (has_line asked.fields (codes "Authorization")) (not (allows_authorized (occurrences_of answered.fields))) absent
@@ -211,13 +211,13 @@ module _ (asked : Asked) (answered : Answered) (facts : StoringFacts) where
     none_applies Operator = not_true facts.policy.caches may.operator_allows
     none_applies Method = get_is_method asked.method may.is_for_the_store.is_get
     none_applies Bypass =
-        neither (request_has_content asked || is_answer_to_its_range_alone facts.policy asked answered) (has_precondition asked)
-        (neither (request_has_content asked) (is_answer_to_its_range_alone facts.policy asked answered) may.is_for_the_store.no_content (for_no_range facts.policy.forwards_ranges (asks_for_range asked) answered.status may.is_for_the_store.no_range)) may.is_for_the_store.no_precondition
+        neither (request_has_content asked || answer_may_depend_on_range facts.policy asked answered) (has_precondition_for_origin asked)
+        (neither (request_has_content asked) (answer_may_depend_on_range facts.policy asked answered) may.is_for_the_store.no_content (for_no_range facts.policy.forwards_ranges (asks_for_range asked) answered.status may.is_for_the_store.no_range)) may.is_for_the_store.no_precondition
     none_applies Status =
         neither (answered.status == 206) (answered.status == 304)
         (not_equal answered.status 206 (λ e. part_is_not_understood answered.status e (may.is_storable.status_is_understood (inl e))))
         (not_equal answered.status 304 (λ e. not_modified_is_not_understood answered.status e (may.is_storable.status_is_understood (inr (inl e)))))
-    none_applies MustUnderstand = implied (response_has answered directive.MustUnderstand) (is_understood_status answered.status) (λ must. may.is_storable.status_is_understood (inr (inr must)))
+    none_applies MustUnderstand = implied (response_has_directive answered directive.MustUnderstand) (is_understood_status answered.status) (λ must. may.is_storable.status_is_understood (inr (inr must)))
     none_applies ResponseNoStore = not_forbidden_applies may.is_storable.no_no_store
     none_applies RequestNoStore = may.is_storable.request_has_no_no_store
     none_applies Private = may.is_storable.not_private
@@ -241,26 +241,26 @@ module _ (asked : Asked) (answered : Answered) (facts : StoringFacts) where
   pub stored_may_be : StatusIsFinal answered → ResponseIsStored asked answered facts → ResponseMayBeStored asked answered facts
   stored_may_be final h = may_be_stored (λ any. no_rule_applies asked answered facts any h) final
 
-  forbids : (response_has answered directive.NoStore ≡ true) → (response_has answered directive.MustUnderstand ≡ true → is_understood_status answered.status ≡ true → ⊥) → ResponseIsStored asked answered facts → ⊥
+  forbids : (response_has_directive answered directive.NoStore ≡ true) → (response_has_directive answered directive.MustUnderstand ≡ true → is_understood_status answered.status ≡ true → ⊥) → ResponseIsStored asked answered facts → ⊥
   forbids no_store not_lifted h = at (not_forbidden (λ any. no_rule_applies asked answered facts any h))
     where
       at : NoStoreIsAbsentOrLifted answered → ⊥
       at (inl absent) = never (sym no_store ∙ absent)
       at (inr lifted) = not_lifted lifted.0 lifted.1
 
-  pub no_store_forbids : (response_has answered directive.NoStore ≡ true) × (response_has answered directive.MustUnderstand ≡ false) → ResponseIsStored asked answered facts → ⊥
+  pub no_store_forbids : (response_has_directive answered directive.NoStore ≡ true) × (response_has_directive answered directive.MustUnderstand ≡ false) → ResponseIsStored asked answered facts → ⊥
   no_store_forbids p h = forbids p.0 (λ must understood. never (sym must ∙ p.1)) h
 
-  pub no_store_forbids_unless_understood : (response_has answered directive.NoStore ≡ true) × (is_understood_status answered.status ≡ false) → ResponseIsStored asked answered facts → ⊥
+  pub no_store_forbids_unless_understood : (response_has_directive answered directive.NoStore ≡ true) × (is_understood_status answered.status ≡ false) → ResponseIsStored asked answered facts → ⊥
   no_store_forbids_unless_understood p h = forbids p.0 (λ must understood. never (sym understood ∙ p.1)) h
 
   pub requests_no_store_forbids : request_has_directive asked directive.NoStore ≡ true → ResponseIsStored asked answered facts → ⊥
   requests_no_store_forbids p h = never (sym p ∙ no_rule_applies asked answered facts RequestNoStore h)
 
-  pub private_forbids : response_has answered directive.Private ≡ true → ResponseIsStored asked answered facts → ⊥
+  pub private_forbids : response_has_directive answered directive.Private ≡ true → ResponseIsStored asked answered facts → ⊥
   private_forbids p h = never (sym p ∙ no_rule_applies asked answered facts Private h)
 
-  pub authorization_forbids : (has_line asked.fields (codes "Authorization") ≡ true) × (response_has answered directive.MustRevalidate ≡ false) × (response_has answered directive.Public ≡ false) × (response_has answered directive.SMaxage ≡ false)
+  pub authorization_forbids : (has_line asked.fields (codes "Authorization") ≡ true) × (response_has_directive answered directive.MustRevalidate ≡ false) × (response_has_directive answered directive.Public ≡ false) × (response_has_directive answered directive.SMaxage ≡ false)
       → ResponseIsStored asked answered facts → ⊥
   authorization_forbids p h = at (shared_or_unauthorized (λ any. no_rule_applies asked answered facts any h))
     where

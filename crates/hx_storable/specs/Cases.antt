@@ -68,8 +68,8 @@ facts_with_vary_star = record {
 }
 
 -- and whose Connection names a cache field too
-abbrev pub facts_with_vary_star_and_listed_field : StoringFacts
-facts_with_vary_star_and_listed_field = record {
+abbrev pub facts_with_vary_star_and_field_in_connection : StoringFacts
+facts_with_vary_star_and_field_in_connection = record {
   policy = plain true;
   vary_star = true;
   listed = true;
@@ -124,13 +124,13 @@ facts_without_cookie_lifetime =
 -- and where each other hears nothing of the cookie
 abbrev pub facts_with_cookies_removed : StoringFacts
 facts_with_cookies_removed =
-    record storable_facts { policy = record (plain true) { lifetime = Some 60; removes_cookies = true } }
+    record storable_facts { policy = record (plain true) { lifetime = Some 60; removes_set_cookie = true } }
 
 -- where the line gives a lifetime, and doesn't give it to requests with a cookie
-abbrev pub facts_without_lifetime_for_cookies : StoringFacts
-facts_without_lifetime_for_cookies =
+abbrev pub facts_without_lifetime_for_request_cookies : StoringFacts
+facts_without_lifetime_for_request_cookies =
     record storable_facts { policy = record (plain true) { lifetime = Some 60; gives_to_cookies = false } }
 
 -- and where it gives it to each
-abbrev pub facts_with_lifetime_for_all : StoringFacts
-facts_with_lifetime_for_all = record storable_facts { policy = record (plain true) { lifetime = Some 60 } }
+abbrev pub facts_with_lifetime_for_request_cookies : StoringFacts
+facts_with_lifetime_for_request_cookies = record storable_facts { policy = record (plain true) { lifetime = Some 60 } }

@@ -2,12 +2,12 @@
 -- A cache may always store less (RFC 9111, section 2); the rules that do so are marked "own".
 --
 -- is_understood_status: statuses     response_allows_storing, allows_authorized: what a response says of it
--- has_cookie_for_one, is_error_not_heuristically_cacheable: what the operator may keep from the store
+-- sets_cookie_without_public, is_error_not_heuristically_cacheable: what the operator may keep from the store
 -- request_has_cookie_or_authorization, has_lifetime_only_by_policy: who asked, and whose lifetime it is
 -- policy_forbids_set_cookie: where a cookie keeps a response from the store
 -- storing_rule_applies: the condition of each rule
 -- storage_rules, storing_rule_number: the rules by their numbers
--- storage_rule_of: the least that stands
+-- rule_against_storing: the least that stands
 use Rattle.std.specs.Prelude.{ℕ, ◌==◌, nat_le, Bool, not, ◌&&◌, ◌||◌, List, [], ◌∷◌, ◌++◌, find, codes, bytes_eq}
 use Rattle.std.specs.Prelude.{Option, is_some}
 use Rattle.hx_fields.specs.FieldLines.{has_field as has_line}
@@ -18,7 +18,7 @@ use Rattle.hx_directives.specs.declared.occurrences.Occurrence.{Occurrence}
 use Rattle.hx_directives.specs.declared.names.Directive.TheVariants as directive
 use Rattle.hx_hop.specs.declared.request_view.Asked.{Asked}
 use Rattle.hx_hop.specs.declared.response_view.Answered.{Answered}
-use Rattle.hx_hop.specs.Bypass.{request_has_content, asks_for_range, has_precondition}
+use Rattle.hx_hop.specs.Bypass.{request_has_content, asks_for_range, has_precondition_for_origin}
 use Rattle.hx_policy.specs.Policies.{is_heuristic_status, lifetime_given_by_policy}
 use Rattle.hx_policy.specs.declared.words.Policy.{Policy}
 use Rattle.hx_storable.specs.declared.known_facts.StoringFacts.{StoringFacts}
@@ -38,8 +38,8 @@ is_understood_status status = is_heuristic_status status && not (status == 206)
 abbrev pub request_has_directive : Asked → Directive → Bool
 request_has_directive asked d = directive_occurs (occurrences_of asked.fields) d
 
-abbrev pub response_has : Answered → Directive → Bool
-response_has answered d = directive_occurs (occurrences_of answered.fields) d
+abbrev pub response_has_directive : Answered → Directive → Bool
+response_has_directive answered d = directive_occurs (occurrences_of answered.fields) d
 
 -- a directive lets a shared cache store what was asked for with Authorization (RFC 9111, section 3.5)
 abbrev pub allows_authorized : List Occurrence → Bool
@@ -49,14 +49,15 @@ allows_authorized found = (directive_occurs found directive.MustRevalidate || di
 -- something in the response allows it to be stored, whether or not its seconds can be read (RFC 9111, section 3)
 abbrev pub response_allows_storing : Answered → Bool
 response_allows_storing answered =
-    (((response_has answered directive.Public || has_line answered.fields (codes "Expires"))
-    || response_has answered directive.MaxAge)
-    || response_has answered directive.SMaxage) || is_heuristic_status answered.status
+    (((response_has_directive answered directive.Public || has_line answered.fields (codes "Expires"))
+    || response_has_directive answered directive.MaxAge)
+    || response_has_directive answered directive.SMaxage) || is_heuristic_status answered.status
 
 -- the response sets a cookie, and doesn't say that it is for all. Of itself Set-Cookie "does not
 -- inhibit caching" (RFC 9111, section 7.3): it takes a word of the operator's line
-abbrev pub has_cookie_for_one : Answered → Bool
-has_cookie_for_one answered = has_line answered.fields (codes "Set-Cookie") && not (response_has answered directive.Public)
+abbrev pub sets_cookie_without_public : Answered → Bool
+sets_cookie_without_public answered =
+    has_line answered.fields (codes "Set-Cookie") && not (response_has_directive answered directive.Public)
 
 -- the status tells an error (RFC 9110, sections 15.5 and 15.6), and none of 404, 405, 410, 414 and 501
 abbrev pub is_error_not_heuristically_cacheable : ℕ → Bool
@@ -69,7 +70,7 @@ request_has_cookie_or_authorization asked = has_line asked.fields (codes "Cookie
 -- the response says how long it is fresh, whether or not that can be read (RFC 9111, section 4.2.1)
 abbrev pub response_states_lifetime : Answered → Bool
 response_states_lifetime answered =
-    (response_has answered directive.SMaxage || response_has answered directive.MaxAge)
+    (response_has_directive answered directive.SMaxage || response_has_directive answered directive.MaxAge)
     || has_line answered.fields (codes "Expires")
 
 -- it doesn't, and the operator's line gives it a lifetime (RFC 9111, section 4.2.2)
@@ -86,8 +87,8 @@ policy_forbids_set_cookie policy answered =
 -- The answer is for the request's range alone: over a line that has ranges cut from what is stored only one that tells
 -- the range wrong is (RFC 9110, section 15.5.17), since a 206 is stored for no request, and each other answer is as to
 -- a request without Range (section 14.2).
-abbrev pub is_answer_to_its_range_alone : Policy → Asked → Answered → Bool
-is_answer_to_its_range_alone policy asked answered =
+abbrev pub answer_may_depend_on_range : Policy → Asked → Answered → Bool
+answer_may_depend_on_range policy asked answered =
     (policy.forwards_ranges || (answered.status == 416)) && asks_for_range asked
 
 -- the condition of each rule
@@ -98,19 +99,20 @@ storing_rule_applies Operator asked answered facts = not facts.policy.caches
 storing_rule_applies Method asked answered facts = not (bytes_eq asked.method (codes "GET"))
 -- own: such a request goes past the cache, in both directions
 storing_rule_applies Bypass asked answered facts =
-    (request_has_content asked || is_answer_to_its_range_alone facts.policy asked answered) || has_precondition asked
+    (request_has_content asked || answer_may_depend_on_range facts.policy asked answered)
+    || has_precondition_for_origin asked
 -- RFC 9111, sections 3 and 3.3
 storing_rule_applies Status asked answered facts = (answered.status == 206) || (answered.status == 304)
 -- RFC 9111, section 5.2.2.3
-storing_rule_applies MustUnderstand asked answered facts = response_has answered directive.MustUnderstand
+storing_rule_applies MustUnderstand asked answered facts = response_has_directive answered directive.MustUnderstand
     && not (is_understood_status answered.status)
 -- RFC 9111, sections 5.2.2.3 and 5.2.2.5
-storing_rule_applies ResponseNoStore asked answered facts = response_has answered directive.NoStore
-    && not (response_has answered directive.MustUnderstand)
+storing_rule_applies ResponseNoStore asked answered facts = response_has_directive answered directive.NoStore
+    && not (response_has_directive answered directive.MustUnderstand)
 -- RFC 9111, section 5.2.1.5
 storing_rule_applies RequestNoStore asked answered facts = request_has_directive asked directive.NoStore
 -- RFC 9111, section 5.2.2.7; own: also where it names fields
-storing_rule_applies Private asked answered facts = response_has answered directive.Private
+storing_rule_applies Private asked answered facts = response_has_directive answered directive.Private
 -- RFC 9111, section 3.5
 storing_rule_applies Authorization asked answered facts = has_line asked.fields (codes "Authorization")
     && not (allows_authorized (occurrences_of answered.fields))
@@ -130,27 +132,27 @@ storing_rule_applies Overtaken asked answered facts = facts.overtaken
 storing_rule_applies Serials asked answered facts = facts.no_serial
 -- own: where the operator stores no cookies, or only his line would let them be sent to others (RFC 9111, section 7.3)
 storing_rule_applies SetCookie asked answered facts =
-    policy_forbids_set_cookie facts.policy answered && has_cookie_for_one answered
+    policy_forbids_set_cookie facts.policy answered && sets_cookie_without_public answered
 -- own: where the operator stores no errors
 storing_rule_applies ErrorStatus asked answered facts = not facts.policy.stores_errors
     && is_error_not_heuristically_cacheable answered.status
 -- own: what tells who asks may be answered for that one, so the line alone doesn't let the answer be sent to others
 storing_rule_applies RequestCookie asked answered facts =
     (not facts.policy.gives_to_cookies && request_has_cookie_or_authorization asked)
-    && (has_lifetime_only_by_policy facts.policy answered && not (response_has answered directive.Public))
+    && (has_lifetime_only_by_policy facts.policy answered && not (response_has_directive answered directive.Public))
 
 -- the rules by their numbers; six ask for nothing but the facts, and the last three are the words of the operator's
 -- line
-abbrev pub storing_rules_on_facts : List StoreRule
-storing_rules_on_facts = VaryStar ∷ ConnectionField ∷ NothingToReuse ∷ TooLarge ∷ Overtaken ∷ Serials ∷ []
+abbrev pub storing_rules_on_facts_alone : List StoreRule
+storing_rules_on_facts_alone = VaryStar ∷ ConnectionField ∷ NothingToReuse ∷ TooLarge ∷ Overtaken ∷ Serials ∷ []
 
-abbrev pub storage_rules_of_policy : List StoreRule
-storage_rules_of_policy = SetCookie ∷ ErrorStatus ∷ RequestCookie ∷ []
+abbrev pub storage_rules_from_policy : List StoreRule
+storage_rules_from_policy = SetCookie ∷ ErrorStatus ∷ RequestCookie ∷ []
 
 abbrev pub storage_rules : List StoreRule
 storage_rules =
     Operator ∷ Method ∷ Bypass ∷ Status ∷ MustUnderstand ∷ ResponseNoStore ∷ RequestNoStore ∷ Private ∷ Authorization
-    ∷ NothingAllows ∷ (storing_rules_on_facts ++ storage_rules_of_policy)
+    ∷ NothingAllows ∷ (storing_rules_on_facts_alone ++ storage_rules_from_policy)
 
 abbrev pub storing_rule_number : StoreRule → ℕ
 storing_rule_number Operator = 0
@@ -174,5 +176,5 @@ storing_rule_number ErrorStatus = 17
 storing_rule_number RequestCookie = 18
 
 -- the least rule that stands
-unfoldable pub storage_rule_of : Asked → Answered → StoringFacts → Option StoreRule
-storage_rule_of asked answered facts = find (λ rule. storing_rule_applies rule asked answered facts) storage_rules
+unfoldable pub rule_against_storing : Asked → Answered → StoringFacts → Option StoreRule
+rule_against_storing asked answered facts = find (λ rule. storing_rule_applies rule asked answered facts) storage_rules

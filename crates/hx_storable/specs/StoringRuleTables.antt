@@ -1,8 +1,8 @@
 -- That the tables of the storing rules agree with each other: the list, the numbers, and the rules of the line's words.
 -- Each is a statement that the law `storing_rule_lists_are_complete_and_in_order` proves.
 use Rattle.std.specs.Prelude.{◌≡◌, ◌==◌, [], ◌∷◌, ◌++◌, map, find, Some}
-use Rattle.hx_storable.specs.Rules.{storage_rules_of_policy, storage_rules, storing_rule_number}
-use Rattle.hx_storable.specs.LineWordsInStoring.{storage_rules_without_policy}
+use Rattle.hx_storable.specs.Rules.{storage_rules_from_policy, storage_rules, storing_rule_number}
+use Rattle.hx_storable.specs.LineWordsInStoring.{storage_rules_not_from_policy}
 use Rattle.hx_storable.specs.declared.rule.StoreRule.{StoreRule}
 
 -- the rules are listed by their numbers, each of which occurs once
@@ -18,4 +18,4 @@ EachStoringRuleIsListed = (rule : StoreRule) → find
 
 -- those of the line's words stand behind all others
 abbrev pub PolicyRulesComeLast : Type 0
-PolicyRulesComeLast = storage_rules ≡ storage_rules_without_policy ++ storage_rules_of_policy
+PolicyRulesComeLast = storage_rules ≡ storage_rules_not_from_policy ++ storage_rules_from_policy

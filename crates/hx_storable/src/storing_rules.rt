@@ -6,16 +6,17 @@ ghost use Rattle.hx_directives.specs.Answers.{directive_occurs};
 ghost use Rattle.hx_directives.specs.declared.names.Directive.TheVariants as directive;
 ghost use Rattle.hx_hop.specs.declared.request_view.Asked.{Asked as AskedFor};
 ghost use Rattle.hx_hop.specs.declared.response_view.Answered.{Answered as AnsweredWith};
-ghost use Rattle.hx_hop.specs.Bypass.{request_has_content, has_precondition};
+ghost use Rattle.hx_hop.specs.Bypass.{request_has_content, has_precondition_for_origin};
 ghost use Rattle.hx_storable.specs.declared.known_facts.StoringFacts.{StoringFacts as Known};
 ghost use Rattle.hx_policy.specs.Policies.{is_heuristic_status};
-ghost use Rattle.hx_storable.specs.Rules.{response_has, request_has_cookie_or_authorization, response_states_lifetime};
+ghost use Rattle.hx_storable.specs.Rules.{response_has_directive, request_has_cookie_or_authorization};
+ghost use Rattle.hx_storable.specs.Rules.{response_states_lifetime};
 ghost use Rattle.hx_storable.specs.Rules.{has_lifetime_only_by_policy};
 ghost use Rattle.hx_storable.specs.Rules.{is_understood_status, allows_authorized, response_allows_storing};
-ghost use Rattle.hx_storable.specs.Rules.{has_cookie_for_one};
-ghost use Rattle.hx_storable.specs.Rules.{is_answer_to_its_range_alone, is_error_not_heuristically_cacheable};
-ghost use Rattle.hx_storable.specs.Rules.{storing_rule_applies, storing_rules_on_facts};
-ghost use Rattle.hx_storable.specs.Rules.{storage_rules_of_policy, storage_rule_of, policy_forbids_set_cookie};
+ghost use Rattle.hx_storable.specs.Rules.{sets_cookie_without_public};
+ghost use Rattle.hx_storable.specs.Rules.{answer_may_depend_on_range, is_error_not_heuristically_cacheable};
+ghost use Rattle.hx_storable.specs.Rules.{storing_rule_applies, storing_rules_on_facts_alone};
+ghost use Rattle.hx_storable.specs.Rules.{storage_rules_from_policy, rule_against_storing, policy_forbids_set_cookie};
 
 use crate::{StoreRule, StoringFacts};
 use hx_directives::{Directive, Directives};
@@ -29,19 +30,19 @@ fn is_get(asked: &Asked) -> bool
 }
 
 /// Whether an answer is for the range of its request alone.
-fn is_answer_to_its_range_alone(policy: Policy, asked: &Asked, answered: &Answered) -> bool
-    ensures { result ≡ is_answer_to_its_range_alone policy asked.now answered.now }
+fn answer_may_depend_on_range(policy: Policy, asked: &Asked, answered: &Answered) -> bool
+    ensures { result ≡ answer_may_depend_on_range policy asked.now answered.now }
 {
     (policy.forwards_ranges || answered.status == 416) && asked.asks_for_range()
 }
 
 fn goes_past_the_cache(policy: Policy, asked: &Asked, answered: &Answered) -> bool
-    ensures { result ≡ ((request_has_content asked.now || is_answer_to_its_range_alone policy asked.now answered.now)
-        || has_precondition asked.now) }
+    ensures { result ≡ ((request_has_content asked.now || answer_may_depend_on_range policy asked.now answered.now)
+        || has_precondition_for_origin asked.now) }
 {
     asked.has_content()
-        || is_answer_to_its_range_alone(policy, asked, answered)
-        || asked.has_precondition()
+        || answer_may_depend_on_range(policy, asked, answered)
+        || asked.has_precondition_for_origin()
 }
 
 /// Neither a part of a representation nor a 304 is stored.
@@ -98,9 +99,9 @@ fn response_allows_storing(answered: &Answered, directives: &Directives) -> bool
 }
 
 /// Whether a response sets a cookie, and doesn't say that it is for all.
-fn has_cookie_for_one(answered: &Answered, directives: &Directives) -> bool
+fn sets_cookie_without_public(answered: &Answered, directives: &Directives) -> bool
     requires { directives.now ≡ occurrences_of answered.now.fields }
-    ensures { result ≡ has_cookie_for_one answered.now }
+    ensures { result ≡ sets_cookie_without_public answered.now }
 {
     answered.fields.has(b"Set-Cookie") && !directives.has(Directive::Public)
 }
@@ -157,7 +158,8 @@ fn is_given_to_someone(
 ) -> bool
     requires { directives.now ≡ occurrences_of answered.now.fields }
     ensures { result ≡ ((not policy.gives_to_cookies && request_has_cookie_or_authorization asked.now)
-        && (has_lifetime_only_by_policy policy answered.now && not (response_has answered.now directive.Public))) }
+        && (has_lifetime_only_by_policy policy answered.now
+        && not (response_has_directive answered.now directive.Public))) }
 {
     !policy.gives_to_cookies
         && request_has_cookie_or_authorization(asked)
@@ -173,7 +175,7 @@ fn is_of_no_use(facts: StoringFacts) -> bool
 
 /// The least rule against storing the response to a request, or None where it is stored. The directives of both are
 /// handed in. No memory is taken.
-#[tactic(auto, unfolding(crate::specs::Rules::storage_rule_of))]
+#[tactic(auto, unfolding(crate::specs::Rules::rule_against_storing))]
 pub fn first_rule_against(
     asked: &Asked,
     asked_directives: &Directives,
@@ -183,7 +185,7 @@ pub fn first_rule_against(
 ) -> Option<StoreRule>
     requires request { asked_directives.now ≡ occurrences_of asked.now.fields }
     requires response { directives.now ≡ occurrences_of answered.now.fields }
-    ensures { result ≡ storage_rule_of asked.now answered.now facts }
+    ensures { result ≡ rule_against_storing asked.now answered.now facts }
 {
     if !facts.policy.caches {
         Some(StoreRule::Operator)
@@ -219,8 +221,8 @@ fn rule_after_the_head(
 ) -> Option<StoreRule>
     requires { directives.now ≡ occurrences_of answered.now.fields }
     ensures { result
-        ≡ find (λ r. storing_rule_applies r asked.now answered.now facts) (storing_rules_on_facts
-        ++ storage_rules_of_policy) }
+        ≡ find (λ r. storing_rule_applies r asked.now answered.now facts) (storing_rules_on_facts_alone
+        ++ storage_rules_from_policy) }
 {
     match rule_on_facts(facts) {
         Some(rule) => Some(rule),
@@ -231,7 +233,7 @@ fn rule_after_the_head(
 /// The least of the rules that ask for nothing but what is known besides the head.
 fn rule_on_facts(facts: StoringFacts) -> Option<StoreRule>
     ensures { (asked : AskedFor) (answered : AnsweredWith)
-        → result ≡ find (λ r. storing_rule_applies r asked answered facts) storing_rules_on_facts }
+        → result ≡ find (λ r. storing_rule_applies r asked answered facts) storing_rules_on_facts_alone }
 {
     if facts.vary_star {
         Some(StoreRule::VaryStar)
@@ -259,10 +261,10 @@ fn rule_of_words(
 ) -> Option<StoreRule>
     requires { directives.now ≡ occurrences_of answered.now.fields }
     ensures { (facts : Known) → facts.policy ≡ policy
-        → result ≡ find (λ r. storing_rule_applies r asked.now answered.now facts) storage_rules_of_policy }
+        → result ≡ find (λ r. storing_rule_applies r asked.now answered.now facts) storage_rules_from_policy }
 {
     if policy_forbids_set_cookie(answered, directives, policy)
-        && has_cookie_for_one(answered, directives)
+        && sets_cookie_without_public(answered, directives)
     {
         Some(StoreRule::SetCookie)
     } else if !policy.stores_errors && is_error_not_heuristically_cacheable(answered.status) {

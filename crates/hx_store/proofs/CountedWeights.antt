@@ -7,8 +7,8 @@ use Rattle.std.proofs.lemmas.List.Sums.{sum_by-cons}
 use Rattle.std.proofs.lemmas.Option.{same_Some}
 use Rattle.hx_store.specs.Serials.{serial_is_in, SerialsAreDistinct}
 use Rattle.hx_store.specs.Stored.{Stored}
-use Rattle.hx_store.specs.Shelf.{serials, find_entry, holds_serial, without_serials, entries_with_promoted, entries_with_first_if_any}
-use Rattle.hx_store.specs.Weights.{weight_of_entry, total_weight, weight_capped_to_64_bits, total_of_capped_weights, entries_after_weight_eviction}
+use Rattle.hx_store.specs.Shelf.{serials, find_entry_of_serial, holds_serial, without_serials, entries_with_promoted, entries_with_first_if_any}
+use Rattle.hx_store.specs.Weights.{weight_of_entry, total_weight, weight_capped_to_64_bits, total_of_capped_weights, entries_after_one_weight_eviction}
 use Rattle.hx_store.proofs.EntryLists.{eqb_comm, not_only, without_none, held_is_found, SerialsAreDistinct-take}
 
 -- no more than so many of the most that one counts
@@ -24,12 +24,12 @@ counted_shows [] = refl
 counted_shows (e ∷ es) =
     omega (arith, sum_by-cons weight_capped_to_64_bits e es, sum_by-cons weight_of_entry e es, counted_shows es)
 
-pub counted_found : (s : ℕ) (es : List Stored) (x : Stored) → SerialsAreDistinct (serials es) → find_entry s es ≡ Some x →
+pub counted_found : (s : ℕ) (es : List Stored) (x : Stored) → SerialsAreDistinct (serials es) → find_entry_of_serial s es ≡ Some x →
     weight_capped_to_64_bits x + total_of_capped_weights (without_serials (s ∷ []) es) ≡ total_of_capped_weights es
 counted_found s [] x d h = absurd (cc)
 counted_found s (e ∷ es) x d h = elim (cases_Bool (eqb e.serial s)) [
   | inl t ↦ (
-      let k : Some e ≡ Some x = sym (ap (λ b. cond b (Some e) (find_entry s es)) t) ∙ h in
+      let k : Some e ≡ Some x = sym (ap (λ b. cond b (Some e) (find_entry_of_serial s es)) t) ∙ h in
       let m : weight_capped_to_64_bits e ≡ weight_capped_to_64_bits x = ap weight_capped_to_64_bits (same_Some e x k) in
       let none : holds_serial s es ≡ false = subst (λ z. serial_is_in z (serials es) ≡ false) (eqb-true e.serial s t) d.0 in
       let w : without_serials (s ∷ []) (e ∷ es) ≡ es =
@@ -38,7 +38,7 @@ counted_found s (e ∷ es) x d h = elim (cases_Bool (eqb e.serial s)) [
       rw w (omega (arith, sum_by-cons weight_capped_to_64_bits e es))
       )
   | inr f ↦ (
-      let k : find_entry s es ≡ Some x = sym (ap (λ b. cond b (Some e) (find_entry s es)) f) ∙ h in
+      let k : find_entry_of_serial s es ≡ Some x = sym (ap (λ b. cond b (Some e) (find_entry_of_serial s es)) f) ∙ h in
       let w : without_serials (s ∷ []) (e ∷ es) ≡ e ∷ without_serials (s ∷ []) es =
       ap (λ b. cond (not b) (e ∷ without_serials (s ∷ []) es) (without_serials (s ∷ []) es)) (not_only e.serial s f) in
       rw w (omega (arith, sum_by-cons weight_capped_to_64_bits e es, sum_by-cons weight_capped_to_64_bits e (without_serials (s ∷ []) es), counted_found s es x d.1 k))
@@ -46,15 +46,15 @@ counted_found s (e ∷ es) x d h = elim (cases_Bool (eqb e.serial s)) [
 ]
 
 -- one in the place of another
-pub counted_anew : (s : ℕ) (es : List Stored) (x y : Stored) → SerialsAreDistinct (serials es) → find_entry s es ≡ Some x →
+pub counted_anew : (s : ℕ) (es : List Stored) (x y : Stored) → SerialsAreDistinct (serials es) → find_entry_of_serial s es ≡ Some x →
     total_of_capped_weights (y ∷ without_serials (s ∷ []) es) + weight_capped_to_64_bits x ≡ total_of_capped_weights es + weight_capped_to_64_bits y
 counted_anew s es x y d h =
     omega (arith, sum_by-cons weight_capped_to_64_bits y (without_serials (s ∷ []) es), counted_found s es x d h)
 
 pub counted_promoted : (s : ℕ) (es : List Stored) → SerialsAreDistinct (serials es) → total_of_capped_weights (entries_with_promoted s es) ≡ total_of_capped_weights es
-counted_promoted s es d = found (find_entry s es) refl
+counted_promoted s es d = found (find_entry_of_serial s es) refl
   where
-    found : (o : Option Stored) → find_entry s es ≡ o → total_of_capped_weights (entries_with_first_if_any o (without_serials (s ∷ []) es)) ≡ total_of_capped_weights es
+    found : (o : Option Stored) → find_entry_of_serial s es ≡ o → total_of_capped_weights (entries_with_first_if_any o (without_serials (s ∷ []) es)) ≡ total_of_capped_weights es
     found None e = ap total_of_capped_weights (without_none s es (held_is_found s es ∙ ap is_some e))
     found (Some x) e = omega (arith, sum_by-cons weight_capped_to_64_bits x (without_serials (s ∷ []) es), counted_found s es x d e)
 
@@ -76,18 +76,18 @@ counted_last (e ∷ es) x h =
     let k : slice_get (e ∷ es) (length es) ≡ Some x = subst (λ m. slice_get (e ∷ es) m ≡ Some x) n h in
     subst (λ m. weight_capped_to_64_bits x + total_of_capped_weights (take m (e ∷ es)) ≡ total_of_capped_weights (e ∷ es)) (sym n) (counted_taken (length es) (e ∷ es) x k refl)
 
-pub counted_none : (s : ℕ) (es : List Stored) → find_entry s es ≡ None → total_of_capped_weights (without_serials (s ∷ []) es) ≡ total_of_capped_weights es
+pub counted_none : (s : ℕ) (es : List Stored) → find_entry_of_serial s es ≡ None → total_of_capped_weights (without_serials (s ∷ []) es) ≡ total_of_capped_weights es
 counted_none s es e = ap total_of_capped_weights (without_none s es (held_is_found s es ∙ ap is_some e))
 
-pub length-entries_after_weight_eviction : (most : ℕ) (es : List Stored) → length (entries_after_weight_eviction most es) ≤ length es
-length-entries_after_weight_eviction most es =
+pub length-entries_after_one_weight_eviction : (most : ℕ) (es : List Stored) → length (entries_after_one_weight_eviction most es) ≤ length es
+length-entries_after_one_weight_eviction most es =
     elim (ltb most (total_weight es)) as (λ b. length (cond b (take (length es - 1) es) es) ≤ length es) [
       | true ↦ omega (arith, length-take (length es - 1) es)
       | false ↦ omega arith
     ]
 
-pub SerialsAreDistinct-entries_after_weight_eviction : (most : ℕ) (es : List Stored) → SerialsAreDistinct (serials es) → SerialsAreDistinct (serials (entries_after_weight_eviction most es))
-SerialsAreDistinct-entries_after_weight_eviction most es d =
+pub SerialsAreDistinct-entries_after_one_weight_eviction : (most : ℕ) (es : List Stored) → SerialsAreDistinct (serials es) → SerialsAreDistinct (serials (entries_after_one_weight_eviction most es))
+SerialsAreDistinct-entries_after_one_weight_eviction most es d =
     elim (ltb most (total_weight es)) as (λ b. SerialsAreDistinct (serials (cond b (take (length es - 1) es) es))) [
       | true ↦ SerialsAreDistinct-take (length es - 1) es d
       | false ↦ d

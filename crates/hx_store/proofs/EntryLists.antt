@@ -8,7 +8,7 @@ use Rattle.std.proofs.lemmas.List.{length-take}
 use Rattle.std.proofs.lemmas.Option.{same_Some}
 use Rattle.hx_store.specs.Serials.{serial_is_in, SerialsAreDistinct, insert_ascending}
 use Rattle.hx_store.specs.Stored.{Stored}
-use Rattle.hx_store.specs.Shelf.{serials, holds_serial, find_entry, without_serials}
+use Rattle.hx_store.specs.Shelf.{serials, holds_serial, find_entry_of_serial, without_serials}
 use Rattle.hx_store.specs.SerialPlaces.{SerialIsInNoEntry, IsIndexOfSerial}
 
 pub eqb_comm : (a b : ℕ) → eqb a b ≡ eqb b a
@@ -24,11 +24,11 @@ without_none s (e ∷ es) h =
     ap (λ b. cond (not b) (e ∷ without_serials (s ∷ []) es) (without_serials (s ∷ []) es)) (not_only e.serial s p.0)
     ∙ ap (λ zs. e ∷ zs) (without_none s es p.1)
 
-pub find_none : (s : ℕ) (es : List Stored) → holds_serial s es ≡ false → find_entry s es ≡ None
+pub find_none : (s : ℕ) (es : List Stored) → holds_serial s es ≡ false → find_entry_of_serial s es ≡ None
 find_none s [] h = refl
 find_none s (e ∷ es) h =
     let p = or_parts (eqb e.serial s) (serial_is_in s (serials es)) h in
-    ap (λ b. cond b (Some e) (find_entry s es)) p.0 ∙ find_none s es p.1
+    ap (λ b. cond b (Some e) (find_entry_of_serial s es)) p.0 ∙ find_none s es p.1
 
 record LenIs (s : ℕ) (es : List Stored) (n : ℕ) : Type 0 where
   at : n < length es → IsIndexOfSerial s es n
@@ -46,7 +46,7 @@ len_is s (e ∷ es) d = elim (cases_Bool (eqb e.serial s)) [
         at = λ h. record {
           within = h;
           held = or_left _ _ t;
-          found = λ d. ap (λ b. cond b (Some e) (find_entry s es)) t;
+          found = λ d. ap (λ b. cond b (Some e) (find_entry_of_serial s es)) t;
           rest = sym w;
         };
         past = λ h. absurd (omega arith);
@@ -63,7 +63,7 @@ len_is s (e ∷ es) d = elim (cases_Bool (eqb e.serial s)) [
         at = λ h. let p = r.at (omega arith) in record {
           within = h;
           held = or_right _ _ p.held;
-          found = λ d. ap (λ b. cond b (Some e) (find_entry s es)) f ∙ p.found d;
+          found = λ d. ap (λ b. cond b (Some e) (find_entry_of_serial s es)) f ∙ p.found d;
           rest = ap (λ zs. e ∷ zs) p.rest ∙ sym w;
         };
         past = λ h. ap (λ b. b || holds_serial s es) f ∙ r.past (omega arith);
@@ -175,29 +175,29 @@ sound_put limit gone es zs x e m h =
     ) in
     subst (IsSound limit) (sym e) g
 
-pub find-serial : (s : ℕ) (es : List Stored) (x : Stored) → find_entry s es ≡ Some x → x.serial ≡ s
+pub find-serial : (s : ℕ) (es : List Stored) (x : Stored) → find_entry_of_serial s es ≡ Some x → x.serial ≡ s
 find-serial s [] x h = absurd (cc)
 find-serial s (e ∷ es) x h = elim (cases_Bool (eqb e.serial s)) [
   | inl t ↦ (
-      let k : Some e ≡ Some x = sym (ap (λ b. cond b (Some e) (find_entry s es)) t) ∙ h in
+      let k : Some e ≡ Some x = sym (ap (λ b. cond b (Some e) (find_entry_of_serial s es)) t) ∙ h in
       let m : e ≡ x = same_Some e x k in
       ap (λ y. y.serial) (sym m) ∙ eqb-true e.serial s t
       )
-  | inr f ↦ find-serial s es x (sym (ap (λ b. cond b (Some e) (find_entry s es)) f) ∙ h)
+  | inr f ↦ find-serial s es x (sym (ap (λ b. cond b (Some e) (find_entry_of_serial s es)) f) ∙ h)
 ]
 
-pub held_is_found : (s : ℕ) (es : List Stored) → holds_serial s es ≡ is_some (find_entry s es)
+pub held_is_found : (s : ℕ) (es : List Stored) → holds_serial s es ≡ is_some (find_entry_of_serial s es)
 held_is_found s [] = refl
 held_is_found s (e ∷ es) =
-    elim (eqb e.serial s) as (λ b. (b || holds_serial s es) ≡ is_some (cond b (Some e) (find_entry s es))) [
+    elim (eqb e.serial s) as (λ b. (b || holds_serial s es) ≡ is_some (cond b (Some e) (find_entry_of_serial s es))) [
       | true ↦ refl
       | false ↦ held_is_found s es
     ]
 
-pub found_has_serial : (s : ℕ) (es : List Stored) → IfSome (find_entry s es) (λ e. e.serial ≡ s)
+pub found_has_serial : (s : ℕ) (es : List Stored) → IfSome (find_entry_of_serial s es) (λ e. e.serial ≡ s)
 found_has_serial s [] = tt
 found_has_serial s (e ∷ es) =
-    let Has : Bool → Type 0 = λ b. IfSome (cond b (Some e) (find_entry s es)) (λ f. f.serial ≡ s) in
+    let Has : Bool → Type 0 = λ b. IfSome (cond b (Some e) (find_entry_of_serial s es)) (λ f. f.serial ≡ s) in
     elim (cases_Bool (eqb e.serial s)) [
       | inl t ↦ subst Has (sym t) (eqb-true e.serial s t)
       | inr f ↦ subst Has (sym f) (found_has_serial s es)
@@ -221,13 +221,13 @@ insert_at_place s (x ∷ xs) = elim (cases_Bool (leb s x)) [
       ∙ sym (ap (λ b. cond b (s ∷ x ∷ xs) (x ∷ insert_ascending s xs)) f)
 ]
 
-pub find_holds : (s : ℕ) (es : List Stored) (x : Stored) → find_entry s es ≡ Some x → holds_serial x.serial es ≡ true
+pub find_holds : (s : ℕ) (es : List Stored) (x : Stored) → find_entry_of_serial s es ≡ Some x → holds_serial x.serial es ≡ true
 find_holds s [] x h = absurd (cc)
 find_holds s (e ∷ es) x h = elim (cases_Bool (eqb e.serial s)) [
   | inl t ↦ (
-      let k : Some e ≡ Some x = sym (ap (λ b. cond b (Some e) (find_entry s es)) t) ∙ h in
+      let k : Some e ≡ Some x = sym (ap (λ b. cond b (Some e) (find_entry_of_serial s es)) t) ∙ h in
       let m : e ≡ x = same_Some e x k in
       or_left _ _ (eq-eqb e.serial x.serial (ap (λ y. y.serial) m))
       )
-  | inr f ↦ or_right _ _ (find_holds s es x (sym (ap (λ b. cond b (Some e) (find_entry s es)) f) ∙ h))
+  | inr f ↦ or_right _ _ (find_holds s es x (sym (ap (λ b. cond b (Some e) (find_entry_of_serial s es)) f) ∙ h))
 ]

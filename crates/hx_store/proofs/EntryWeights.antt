@@ -8,7 +8,7 @@ use Rattle.std.proofs.lemmas.List.Filters.{sum_by-filter_both}
 use Rattle.std.proofs.lemmas.Option.{same_Some, IfSome_then}
 use Rattle.hx_store.specs.Serials.{serial_is_in}
 use Rattle.hx_store.specs.Stored.{Stored}
-use Rattle.hx_store.specs.Shelf.{serials, find_entry, without_serials, entries_with_promoted, entries_with_first_if_any}
+use Rattle.hx_store.specs.Shelf.{serials, find_entry_of_serial, without_serials, entries_with_promoted, entries_with_first_if_any}
 use Rattle.hx_store.specs.Weights.{weight_of_entry, StoreBounds, IsWithinBounds, WeightsAreThoseOfEntries, prefix_within_weight, prefix_of_weight_if_any, longest_prefix_within, cut_to_bounds}
 use Rattle.hx_store.proofs.Fronts.{within_stays}
 use Rattle.hx_store.proofs.EntryLists.{eqb_comm, not_only, length-filter_le, length-without, held_is_found}
@@ -28,19 +28,19 @@ filter_is_within bounds stays es h = record {
 }
 
 -- an entry that is taken out of a list and put in front weighs there what it did
-promoted_weighs : (s : ℕ) (es : List Stored) (x : Stored) → find_entry s es ≡ Some x →
+promoted_weighs : (s : ℕ) (es : List Stored) (x : Stored) → find_entry_of_serial s es ≡ Some x →
     weight_of_entry x + sum_by weight_of_entry (without_serials (s ∷ []) es) ≤ sum_by weight_of_entry es
 promoted_weighs s [] x h = absurd (cc)
 promoted_weighs s (e ∷ es) x h = elim (cases_Bool (eqb e.serial s)) [
   | inl t ↦ (
-      let k : Some e ≡ Some x = sym (ap (λ b. cond b (Some e) (find_entry s es)) t) ∙ h in
+      let k : Some e ≡ Some x = sym (ap (λ b. cond b (Some e) (find_entry_of_serial s es)) t) ∙ h in
       let m : weight_of_entry e ≡ weight_of_entry x = ap weight_of_entry (same_Some e x k) in
       let w : without_serials (s ∷ []) (e ∷ es) ≡ without_serials (s ∷ []) es =
       ap (λ b. cond (not b) (e ∷ without_serials (s ∷ []) es) (without_serials (s ∷ []) es)) (or_left _ _ (sym (eqb_comm e.serial s) ∙ t)) in
       rw w (omega (arith, sum_by-cons weight_of_entry e es, filter_weighs (λ y. not (serial_is_in y.serial (s ∷ []))) es))
       )
   | inr f ↦ (
-      let k : find_entry s es ≡ Some x = sym (ap (λ b. cond b (Some e) (find_entry s es)) f) ∙ h in
+      let k : find_entry_of_serial s es ≡ Some x = sym (ap (λ b. cond b (Some e) (find_entry_of_serial s es)) f) ∙ h in
       let w : without_serials (s ∷ []) (e ∷ es) ≡ e ∷ without_serials (s ∷ []) es =
       ap (λ b. cond (not b) (e ∷ without_serials (s ∷ []) es) (without_serials (s ∷ []) es)) (not_only e.serial s f) in
       rw w (omega (arith, sum_by-cons weight_of_entry e es, sum_by-cons weight_of_entry e (without_serials (s ∷ []) es), promoted_weighs s es x k))
@@ -48,9 +48,9 @@ promoted_weighs s (e ∷ es) x h = elim (cases_Bool (eqb e.serial s)) [
 ]
 
 pub promoted_is_within : (bounds : StoreBounds) (s : ℕ) (es : List Stored) → IsWithinBounds bounds weight_of_entry es → IsWithinBounds bounds weight_of_entry (entries_with_promoted s es)
-promoted_is_within bounds s es h = found (find_entry s es) refl
+promoted_is_within bounds s es h = found (find_entry_of_serial s es) refl
   where
-    found : (o : Option Stored) → find_entry s es ≡ o → IsWithinBounds bounds weight_of_entry (entries_with_first_if_any o (without_serials (s ∷ []) es))
+    found : (o : Option Stored) → find_entry_of_serial s es ≡ o → IsWithinBounds bounds weight_of_entry (entries_with_first_if_any o (without_serials (s ∷ []) es))
     found None e = filter_is_within bounds (λ y. not (serial_is_in y.serial (s ∷ []))) es h
     found (Some x) e = record {
       number = let n = h.number in omega (arith, length-without s es (held_is_found s es ∙ ap is_some e));

@@ -7,7 +7,7 @@ use Rattle.hx_target.specs.Keys.{same_key}
 use Rattle.hx_store.specs.Stored.{Stored}
 use Rattle.hx_store.specs.Serials.{serial_is_in, insert_ascending}
 use Rattle.hx_store.specs.Shelf.{serials_of_key}
-use Rattle.hx_store.specs.Found.{SerialIsAtMostEachOf, SerialsAreAscending}
+use Rattle.hx_store.specs.Found.{SerialIsAtMostEachOf, SerialsNeverDescend}
 
 swap_or : (a b c : Bool) → (a || (b || c)) ≡ (b || (a || c))
 swap_or true true c = refl
@@ -46,20 +46,20 @@ below_insert a s (x ∷ xs) le h =
       | false ↦ (h.0, below_insert a s xs le h.1)
     ]
 
-pub ascending_insert : (s : ℕ) (xs : List ℕ) → SerialsAreAscending xs → SerialsAreAscending (insert_ascending s xs)
+pub ascending_insert : (s : ℕ) (xs : List ℕ) → SerialsNeverDescend xs → SerialsNeverDescend (insert_ascending s xs)
 ascending_insert s [] h = (tt, tt)
 ascending_insert s (x ∷ xs) h =
-    let Ascends : Bool → Type 0 = λ b. SerialsAreAscending (cond b (s ∷ x ∷ xs) (x ∷ insert_ascending s xs)) in
+    let Ascends : Bool → Type 0 = λ b. SerialsNeverDescend (cond b (s ∷ x ∷ xs) (x ∷ insert_ascending s xs)) in
     elim (leb_tells s x) [
       | inl p ↦ subst Ascends (sym p.0) ((p.1, below_less s x xs p.1 h.0), h)
       | inr p ↦ subst Ascends (sym p.0) (below_insert x s xs (omega (arith, p.1)) h.0, ascending_insert s xs h.1)
     ]
 
-pub finds_ascending : (key : Key) (es : List Stored) → SerialsAreAscending (serials_of_key key es)
+pub finds_ascending : (key : Key) (es : List Stored) → SerialsNeverDescend (serials_of_key key es)
 finds_ascending key [] = tt
 finds_ascending key (e ∷ es) =
     let more = finds_ascending key es in
-    elim (same_key e.key key) as (λ b. SerialsAreAscending (cond b (insert_ascending e.serial (serials_of_key key es)) (serials_of_key key es))) [
+    elim (same_key e.key key) as (λ b. SerialsNeverDescend (cond b (insert_ascending e.serial (serials_of_key key es)) (serials_of_key key es))) [
       | true ↦ ascending_insert e.serial (serials_of_key key es) more
       | false ↦ more
     ]

@@ -13,11 +13,11 @@ use Rattle.hx_target.specs.KeyOrder.{same_key_equiv}
 use Rattle.hx_store.specs.declared.key_index.KeyIndex.{KeyIndex}
 use Rattle.hx_store.specs.Serials.{serial_is_in, SerialsAreDistinct, insert_ascending}
 use Rattle.hx_store.specs.Stored.{Stored}
-use Rattle.hx_store.specs.Shelf.{serials, holds_serial, find_entry, without_serials, serials_of_key, entries_with_promoted, entries_with_first_if_any, entries_without_key}
-use Rattle.hx_store.specs.Found.{SerialIsAtMostEachOf, SerialsAreAscending}
+use Rattle.hx_store.specs.Shelf.{serials, holds_serial, find_entry_of_serial, without_serials, serials_of_key, entries_with_promoted, entries_with_first_if_any, entries_without_key}
+use Rattle.hx_store.specs.Found.{SerialIsAtMostEachOf, SerialsNeverDescend}
 use Rattle.hx_vary.specs.declared.marks.VariantMark.{VariantMark}
 use Rattle.hx_vary.specs.Marks.{mark_of_values}
-use Rattle.hx_store.specs.Index.{EachMarkIsOfItsEntry, IsKeyIndexOf, MarksAreOfTheirEntries, SerialMarkIsReplacedInIndex, SerialIsInsertedInIndex, SerialIsRemovedFromIndex, without_first_serial, serials_in_index, serials_and_marks_at, entries_without_serials_but_one}
+use Rattle.hx_store.specs.Index.{EachMarkIsOfItsEntry, IsKeyIndexOf, MarksAreOfTheirEntries, SerialMarkIsReplacedInIndex, SerialIsInsertedInIndex, SerialIsRemovedFromIndex, serials_without_first_match, serials_at_key_in_index, serials_and_marks_at, entries_without_serials_but_one}
 use Rattle.hx_store.proofs.EntryLists.{eqb_comm, not_only, without_none, without_gone, find_none, find-serial, find_holds, SerialsAreDistinct-filter, length-filter_le, length-without}
 use Rattle.hx_store.proofs.FoundSerials.{is_in-insert, finds_ascending, below_less}
 use Rattle.hx_store.proofs.KeyedEntries.{is_some-find, distinct-front}
@@ -28,23 +28,23 @@ use Rattle.hx_store.proofs.MarkLists.{IsPart, keys-marked, keys-put, keys-remove
 -- ---- lists of serials
 
 -- what was put in goes again
-but-insert : (s : ℕ) (xs : List ℕ) → without_first_serial s (insert_ascending s xs) ≡ xs
+but-insert : (s : ℕ) (xs : List ℕ) → serials_without_first_match s (insert_ascending s xs) ≡ xs
 but-insert s [] = ap (λ b. cond b [] (s ∷ [])) (eq-eqb s s refl)
 but-insert s (x ∷ xs) = elim (cases_Bool (leb s x)) [
-  | inl t ↦ ap (λ b. without_first_serial s (cond b (s ∷ x ∷ xs) (x ∷ insert_ascending s xs))) t ∙ ap (λ b. cond b (x ∷ xs) (s ∷ without_first_serial s (x ∷ xs))) (eq-eqb s s refl)
+  | inl t ↦ ap (λ b. serials_without_first_match s (cond b (s ∷ x ∷ xs) (x ∷ insert_ascending s xs))) t ∙ ap (λ b. cond b (x ∷ xs) (s ∷ serials_without_first_match s (x ∷ xs))) (eq-eqb s s refl)
   | inr f ↦ (
       let n : eqb x s ≡ false = grind (arith, nat_tests, f) in
-      ap (λ b. without_first_serial s (cond b (s ∷ x ∷ xs) (x ∷ insert_ascending s xs))) f
-      ∙ ap (λ b. cond b (insert_ascending s xs) (x ∷ without_first_serial s (insert_ascending s xs))) n
+      ap (λ b. serials_without_first_match s (cond b (s ∷ x ∷ xs) (x ∷ insert_ascending s xs))) f
+      ∙ ap (λ b. cond b (insert_ascending s xs) (x ∷ serials_without_first_match s (insert_ascending s xs))) n
       ∙ ap (λ ys. x ∷ ys) (but-insert s xs)
       )
 ]
 
-but-none : (s : ℕ) (xs : List ℕ) → serial_is_in s xs ≡ false → without_first_serial s xs ≡ xs
+but-none : (s : ℕ) (xs : List ℕ) → serial_is_in s xs ≡ false → serials_without_first_match s xs ≡ xs
 but-none s [] h = refl
 but-none s (x ∷ xs) h =
     let p = or_parts (eqb x s) (serial_is_in s xs) h in
-    ap (λ b. cond b xs (x ∷ without_first_serial s xs)) p.0 ∙ ap (λ ys. x ∷ ys) (but-none s xs p.1)
+    ap (λ b. cond b xs (x ∷ serials_without_first_match s xs)) p.0 ∙ ap (λ ys. x ∷ ys) (but-none s xs p.1)
 
 pub insert-below : (a : ℕ) (xs : List ℕ) → SerialIsAtMostEachOf a xs → insert_ascending a xs ≡ a ∷ xs
 insert-below a [] h = refl
@@ -53,29 +53,29 @@ insert-below a (x ∷ xs) h =
     ap (λ b. cond b (a ∷ x ∷ xs) (x ∷ insert_ascending a xs)) t
 
 -- another one goes, whether before or after
-but-other : (s a : ℕ) (xs : List ℕ) → eqb a s ≡ false → SerialsAreAscending xs → without_first_serial s (insert_ascending a xs) ≡ insert_ascending a (without_first_serial s xs)
+but-other : (s a : ℕ) (xs : List ℕ) → eqb a s ≡ false → SerialsNeverDescend xs → serials_without_first_match s (insert_ascending a xs) ≡ insert_ascending a (serials_without_first_match s xs)
 but-other s a [] n h = ap (λ b. cond b [] (a ∷ [])) n
 but-other s a (x ∷ xs) n h = elim (leb_tells a x) [
   | inl p ↦ (
-      let front : without_first_serial s (insert_ascending a (x ∷ xs)) ≡ a ∷ without_first_serial s (x ∷ xs) =
-      ap (λ b. without_first_serial s (cond b (a ∷ x ∷ xs) (x ∷ insert_ascending a xs))) p.0 ∙ ap (λ b. cond b (x ∷ xs) (a ∷ without_first_serial s (x ∷ xs))) n in
+      let front : serials_without_first_match s (insert_ascending a (x ∷ xs)) ≡ a ∷ serials_without_first_match s (x ∷ xs) =
+      ap (λ b. serials_without_first_match s (cond b (a ∷ x ∷ xs) (x ∷ insert_ascending a xs))) p.0 ∙ ap (λ b. cond b (x ∷ xs) (a ∷ serials_without_first_match s (x ∷ xs))) n in
       front ∙ sym (elim (cases_Bool (eqb x s)) [
-        | inl t ↦ ap (λ b. insert_ascending a (cond b xs (x ∷ without_first_serial s xs))) t ∙ insert-below a xs (below_less a x xs p.1 h.0)
-            ∙ sym (ap (λ b. a ∷ cond b xs (x ∷ without_first_serial s xs)) t)
-        | inr f ↦ ap (λ b. insert_ascending a (cond b xs (x ∷ without_first_serial s xs))) f
-            ∙ ap (λ b. cond b (a ∷ x ∷ without_first_serial s xs) (x ∷ insert_ascending a (without_first_serial s xs))) p.0
-            ∙ sym (ap (λ b. a ∷ cond b xs (x ∷ without_first_serial s xs)) f)
+        | inl t ↦ ap (λ b. insert_ascending a (cond b xs (x ∷ serials_without_first_match s xs))) t ∙ insert-below a xs (below_less a x xs p.1 h.0)
+            ∙ sym (ap (λ b. a ∷ cond b xs (x ∷ serials_without_first_match s xs)) t)
+        | inr f ↦ ap (λ b. insert_ascending a (cond b xs (x ∷ serials_without_first_match s xs))) f
+            ∙ ap (λ b. cond b (a ∷ x ∷ serials_without_first_match s xs) (x ∷ insert_ascending a (serials_without_first_match s xs))) p.0
+            ∙ sym (ap (λ b. a ∷ cond b xs (x ∷ serials_without_first_match s xs)) f)
       ])
       )
   | inr p ↦ (
-      ap (λ b. without_first_serial s (cond b (a ∷ x ∷ xs) (x ∷ insert_ascending a xs))) p.0
+      ap (λ b. serials_without_first_match s (cond b (a ∷ x ∷ xs) (x ∷ insert_ascending a xs))) p.0
       ∙ (elim (cases_Bool (eqb x s)) [
-        | inl t ↦ ap (λ b. cond b (insert_ascending a xs) (x ∷ without_first_serial s (insert_ascending a xs))) t
-            ∙ sym (ap (λ b. insert_ascending a (cond b xs (x ∷ without_first_serial s xs))) t)
-        | inr f ↦ ap (λ b. cond b (insert_ascending a xs) (x ∷ without_first_serial s (insert_ascending a xs))) f
+        | inl t ↦ ap (λ b. cond b (insert_ascending a xs) (x ∷ serials_without_first_match s (insert_ascending a xs))) t
+            ∙ sym (ap (λ b. insert_ascending a (cond b xs (x ∷ serials_without_first_match s xs))) t)
+        | inr f ↦ ap (λ b. cond b (insert_ascending a xs) (x ∷ serials_without_first_match s (insert_ascending a xs))) f
             ∙ ap (λ ys. x ∷ ys) (but-other s a xs n h.1)
-            ∙ sym (ap (λ b. cond b (a ∷ x ∷ without_first_serial s xs) (x ∷ insert_ascending a (without_first_serial s xs))) p.0)
-            ∙ sym (ap (λ b. insert_ascending a (cond b xs (x ∷ without_first_serial s xs))) f)
+            ∙ sym (ap (λ b. cond b (a ∷ x ∷ serials_without_first_match s xs) (x ∷ insert_ascending a (serials_without_first_match s xs))) p.0)
+            ∙ sym (ap (λ b. insert_ascending a (cond b xs (x ∷ serials_without_first_match s xs))) f)
       ])
       )
 ]
@@ -88,12 +88,12 @@ none_below_in a s (x ∷ xs) h m = elim (cases_Bool (eqb x s)) [
 ]
 
 -- what went comes back where it was
-insert-but : (s : ℕ) (xs : List ℕ) → SerialsAreAscending xs → serial_is_in s xs ≡ true → insert_ascending s (without_first_serial s xs) ≡ xs
+insert-but : (s : ℕ) (xs : List ℕ) → SerialsNeverDescend xs → serial_is_in s xs ≡ true → insert_ascending s (serials_without_first_match s xs) ≡ xs
 insert-but s [] h m = absurd (false≢true m)
 insert-but s (x ∷ xs) h m = elim (cases_Bool (eqb x s)) [
   | inl t ↦ (
       let e : x ≡ s = eqb-true x s t in
-      ap (λ b. insert_ascending s (cond b xs (x ∷ without_first_serial s xs))) t
+      ap (λ b. insert_ascending s (cond b xs (x ∷ serials_without_first_match s xs))) t
       ∙ insert-below s xs (subst (λ y. SerialIsAtMostEachOf y xs) e h.0)
       ∙ ap (λ y. y ∷ xs) (sym e)
       )
@@ -101,8 +101,8 @@ insert-but s (x ∷ xs) h m = elim (cases_Bool (eqb x s)) [
       let m' : serial_is_in s xs ≡ true = sym (ap (λ b. b || serial_is_in s xs) f) ∙ m in
       let l : x ≤ s = none_below_in x s xs h.0 m' in
       let g : leb s x ≡ false = grind (arith, nat_tests, f, l) in
-      ap (λ b. insert_ascending s (cond b xs (x ∷ without_first_serial s xs))) f
-      ∙ ap (λ b. cond b (s ∷ x ∷ without_first_serial s xs) (x ∷ insert_ascending s (without_first_serial s xs))) g
+      ap (λ b. insert_ascending s (cond b xs (x ∷ serials_without_first_match s xs))) f
+      ∙ ap (λ b. cond b (s ∷ x ∷ serials_without_first_match s xs) (x ∷ insert_ascending s (serials_without_first_match s xs))) g
       ∙ ap (λ ys. x ∷ ys) (insert-but s xs h.1 m')
       )
 ]
@@ -120,7 +120,7 @@ not_of_key s q (e ∷ es) h =
     ]
 
 -- an entry that goes takes its serial with it
-pub serials-without : (s : ℕ) (q : Key) (es : List Stored) → SerialsAreDistinct (serials es) → serials_of_key q (without_serials (s ∷ []) es) ≡ without_first_serial s (serials_of_key q es)
+pub serials-without : (s : ℕ) (q : Key) (es : List Stored) → SerialsAreDistinct (serials es) → serials_of_key q (without_serials (s ∷ []) es) ≡ serials_without_first_match s (serials_of_key q es)
 serials-without s q [] d = refl
 serials-without s q (e ∷ es) d = elim (cases_Bool (eqb e.serial s)) [
   | inl t ↦ (
@@ -129,15 +129,15 @@ serials-without s q (e ∷ es) d = elim (cases_Bool (eqb e.serial s)) [
       let gone : serial_is_in e.serial (s ∷ []) ≡ true = or_left _ _ (sym (eqb_comm e.serial s) ∙ t) in
       ap (λ b. serials_of_key q (cond (not b) (e ∷ without_serials (s ∷ []) es) (without_serials (s ∷ []) es))) gone
       ∙ ap (serials_of_key q) (without_none s es none)
-      ∙ sym (elim (same_key e.key q) as (λ b. without_first_serial s (cond b (insert_ascending e.serial (serials_of_key q es)) (serials_of_key q es)) ≡ serials_of_key q es) [
-        | true ↦ ap (λ z. without_first_serial s (insert_ascending z (serials_of_key q es))) is ∙ but-insert s (serials_of_key q es)
+      ∙ sym (elim (same_key e.key q) as (λ b. serials_without_first_match s (cond b (insert_ascending e.serial (serials_of_key q es)) (serials_of_key q es)) ≡ serials_of_key q es) [
+        | true ↦ ap (λ z. serials_without_first_match s (insert_ascending z (serials_of_key q es))) is ∙ but-insert s (serials_of_key q es)
         | false ↦ but-none s (serials_of_key q es) (not_of_key s q es none)
       ])
       )
   | inr f ↦ (
       ap (λ b. serials_of_key q (cond (not b) (e ∷ without_serials (s ∷ []) es) (without_serials (s ∷ []) es))) (not_only e.serial s f)
       ∙ (elim (same_key e.key q) as (λ b. cond b (insert_ascending e.serial (serials_of_key q (without_serials (s ∷ []) es))) (serials_of_key q (without_serials (s ∷ []) es))
-      ≡ without_first_serial s (cond b (insert_ascending e.serial (serials_of_key q es)) (serials_of_key q es))) [
+      ≡ serials_without_first_match s (cond b (insert_ascending e.serial (serials_of_key q es)) (serials_of_key q es))) [
         | true ↦ ap (insert_ascending e.serial) (serials-without s q es d.1)
             ∙ sym (but-other s e.serial (serials_of_key q es) f (finds_ascending q es))
         | false ↦ serials-without s q es d.1
@@ -146,11 +146,11 @@ serials-without s q (e ∷ es) d = elim (cases_Bool (eqb e.serial s)) [
 ]
 
 -- the serial of a held entry is among those of its key, and of no other key
-of_its_key : (s : ℕ) (q : Key) (es : List Stored) (e : Stored) → SerialsAreDistinct (serials es) → find_entry s es ≡ Some e → serial_is_in s (serials_of_key q es) ≡ same_key e.key q
+of_its_key : (s : ℕ) (q : Key) (es : List Stored) (e : Stored) → SerialsAreDistinct (serials es) → find_entry_of_serial s es ≡ Some e → serial_is_in s (serials_of_key q es) ≡ same_key e.key q
 of_its_key s q [] e d h = absurd (cc)
 of_its_key s q (x ∷ xs) e d h = elim (cases_Bool (eqb x.serial s)) [
   | inl t ↦ (
-      let k : x ≡ e = same_Some x e (sym (ap (λ b. cond b (Some x) (find_entry s xs)) t) ∙ h) in
+      let k : x ≡ e = same_Some x e (sym (ap (λ b. cond b (Some x) (find_entry_of_serial s xs)) t) ∙ h) in
       let none : holds_serial s xs ≡ false = subst (λ z. holds_serial z xs ≡ false) (eqb-true x.serial s t) d.0 in
       let r = not_of_key s q xs none in
       (elim (same_key x.key q) as (λ b. serial_is_in s (cond b (insert_ascending x.serial (serials_of_key q xs)) (serials_of_key q xs)) ≡ b) [
@@ -160,7 +160,7 @@ of_its_key s q (x ∷ xs) e d h = elim (cases_Bool (eqb x.serial s)) [
       ∙ ap (λ y. same_key y.key q) k
       )
   | inr f ↦ (
-      let more = of_its_key s q xs e d.1 (sym (ap (λ b. cond b (Some x) (find_entry s xs)) f) ∙ h) in
+      let more = of_its_key s q xs e d.1 (sym (ap (λ b. cond b (Some x) (find_entry_of_serial s xs)) f) ∙ h) in
       (elim (same_key x.key q) as (λ b. serial_is_in s (cond b (insert_ascending x.serial (serials_of_key q xs)) (serials_of_key q xs)) ≡ serial_is_in s (serials_of_key q xs)) [
         | true ↦ is_in-insert s x.serial (serials_of_key q xs) ∙ ap (λ b. b || serial_is_in s (serials_of_key q xs)) f
         | false ↦ refl
@@ -170,7 +170,7 @@ of_its_key s q (x ∷ xs) e d h = elim (cases_Bool (eqb x.serial s)) [
 ]
 
 -- an entry with the serial and the key of a held one, in its place, first
-pub serials-front : (s : ℕ) (q : Key) (es : List Stored) (e x : Stored) → SerialsAreDistinct (serials es) → find_entry s es ≡ Some e → x.serial ≡ s →
+pub serials-front : (s : ℕ) (q : Key) (es : List Stored) (e x : Stored) → SerialsAreDistinct (serials es) → find_entry_of_serial s es ≡ Some e → x.serial ≡ s →
     same_key e.key x.key ≡ true → serials_of_key q (x ∷ without_serials (s ∷ []) es) ≡ serials_of_key q es
 serials-front s q es e x d h is k =
     let same : same_key x.key q ≡ same_key e.key q = ap (λ y. same_key y q) (sym (same_keys_are_equal e.key x.key k)) in
@@ -193,10 +193,10 @@ serials-front s q es e x d h is k =
 
 -- at a key, the serials once one was put in at another, and once one was taken out there
 abbrev Gains : KeyIndex → Key → ℕ → KeyIndex → Type 0
-Gains old key s new = (q : Key) → serials_in_index new q ≡ cond (same_key key q) (insert_ascending s (serials_in_index old q)) (serials_in_index old q)
+Gains old key s new = (q : Key) → serials_at_key_in_index new q ≡ cond (same_key key q) (insert_ascending s (serials_at_key_in_index old q)) (serials_at_key_in_index old q)
 
 abbrev Loses : KeyIndex → Key → ℕ → KeyIndex → Type 0
-Loses old key s new = (q : Key) → serials_in_index new q ≡ cond (same_key key q) (without_first_serial s (serials_in_index old q)) (serials_in_index old q)
+Loses old key s new = (q : Key) → serials_at_key_in_index new q ≡ cond (same_key key q) (serials_without_first_match s (serials_at_key_in_index old q)) (serials_at_key_in_index old q)
 
 gains : (key : Key) (s : ℕ) (m : VariantMark) (es : List Stored) (old new : KeyIndex) → holds_serial s es ≡ false → IsKeyIndexOf es old → SerialIsInsertedInIndex old key s m new → Gains old key s new
 gains key s m es old new n i p q =
@@ -212,18 +212,18 @@ loses : (key : Key) (s : ℕ) (old new : KeyIndex) → SerialIsRemovedFromIndex 
 loses key s old new t q =
     let ps = serials_and_marks_at old q in
     ap keys_of (t q)
-    ∙ (elim (same_key key q) as (λ b. keys_of (cond b (remove_entry (is_at (nat_cmp s)) ps) ps) ≡ cond b (without_first_serial s (keys_of ps)) (keys_of ps)) [
+    ∙ (elim (same_key key q) as (λ b. keys_of (cond b (remove_entry (is_at (nat_cmp s)) ps) ps) ≡ cond b (serials_without_first_match s (keys_of ps)) (keys_of ps)) [
       | true ↦ keys-removed s ps
       | false ↦ refl
     ])
 
-index-without : (s : ℕ) (es : List Stored) (e : Stored) (old new : KeyIndex) → SerialsAreDistinct (serials es) → find_entry s es ≡ Some e →
+index-without : (s : ℕ) (es : List Stored) (e : Stored) (old new : KeyIndex) → SerialsAreDistinct (serials es) → find_entry_of_serial s es ≡ Some e →
     IsKeyIndexOf es old → Loses old e.key s new → IsKeyIndexOf (without_serials (s ∷ []) es) new
 index-without s es e old new d h i t q =
     t q
     ∙ (elim (cases_Bool (same_key e.key q)) [
-      | inl y ↦ ap (λ b. cond b (without_first_serial s (serials_in_index old q)) (serials_in_index old q)) y ∙ ap (without_first_serial s) (i q)
-      | inr n ↦ ap (λ b. cond b (without_first_serial s (serials_in_index old q)) (serials_in_index old q)) n ∙ i q ∙ sym (but-none s (serials_of_key q es) (of_its_key s q es e d h ∙ n))
+      | inl y ↦ ap (λ b. cond b (serials_without_first_match s (serials_at_key_in_index old q)) (serials_at_key_in_index old q)) y ∙ ap (serials_without_first_match s) (i q)
+      | inr n ↦ ap (λ b. cond b (serials_without_first_match s (serials_at_key_in_index old q)) (serials_at_key_in_index old q)) n ∙ i q ∙ sym (but-none s (serials_of_key q es) (of_its_key s q es e d h ∙ n))
     ])
     ∙ sym (serials-without s q es d)
 
@@ -236,11 +236,11 @@ index_back : (key : Key) (s : ℕ) (es : List Stored) (old mid new : KeyIndex) �
 index_back key s es old mid new i p t q =
     t q
     ∙ (elim (cases_Bool (same_key key q)) [
-      | inl y ↦ ap (λ b. cond b (without_first_serial s (serials_in_index mid q)) (serials_in_index mid q)) y
-          ∙ ap (without_first_serial s) (p q ∙ ap (λ b. cond b (insert_ascending s (serials_in_index old q)) (serials_in_index old q)) y)
-          ∙ but-insert s (serials_in_index old q)
-      | inr n ↦ ap (λ b. cond b (without_first_serial s (serials_in_index mid q)) (serials_in_index mid q)) n
-          ∙ p q ∙ ap (λ b. cond b (insert_ascending s (serials_in_index old q)) (serials_in_index old q)) n
+      | inl y ↦ ap (λ b. cond b (serials_without_first_match s (serials_at_key_in_index mid q)) (serials_at_key_in_index mid q)) y
+          ∙ ap (serials_without_first_match s) (p q ∙ ap (λ b. cond b (insert_ascending s (serials_at_key_in_index old q)) (serials_at_key_in_index old q)) y)
+          ∙ but-insert s (serials_at_key_in_index old q)
+      | inr n ↦ ap (λ b. cond b (serials_without_first_match s (serials_at_key_in_index mid q)) (serials_at_key_in_index mid q)) n
+          ∙ p q ∙ ap (λ b. cond b (insert_ascending s (serials_at_key_in_index old q)) (serials_at_key_in_index old q)) n
     ])
     ∙ i q
 
@@ -248,13 +248,13 @@ pub index-again : (key : Key) (s : ℕ) (m : VariantMark) (es : List Stored) (ol
     SerialIsRemovedFromIndex mid key s new → IsKeyIndexOf es new
 index-again key s m es old mid new n i p t = index_back key s es old mid new i (gains key s m es old mid n i p) (loses key s mid new t)
 
-index-front : (s : ℕ) (es : List Stored) (e x : Stored) (index : KeyIndex) → SerialsAreDistinct (serials es) → find_entry s es ≡ Some e → x.serial ≡ s →
+index-front : (s : ℕ) (es : List Stored) (e x : Stored) (index : KeyIndex) → SerialsAreDistinct (serials es) → find_entry_of_serial s es ≡ Some e → x.serial ≡ s →
     same_key e.key x.key ≡ true → IsKeyIndexOf es index → IsKeyIndexOf (x ∷ without_serials (s ∷ []) es) index
 index-front s es e x index d h is k i q = i q ∙ sym (serials-front s q es e x d h is k)
 
 -- the last of them
 pub record IsLast (es : List Stored) (e : Stored) : Type 0 where
-  pub found : find_entry e.serial es ≡ Some e
+  pub found : find_entry_of_serial e.serial es ≡ Some e
   pub rest : without_serials (e.serial ∷ []) es ≡ take (length es - 1) es
 
 pub last-is : (es : List Stored) (e : Stored) → SerialsAreDistinct (serials es) → slice_get es (length es - 1) ≡ Some e → IsLast es e
@@ -276,7 +276,7 @@ last-is (x ∷ (y ∷ ys)) e d h =
       | inr f ↦ f
     ] in
     record {
-      found = ap (λ b. cond b (Some x) (find_entry e.serial (y ∷ ys))) n ∙ r.found;
+      found = ap (λ b. cond b (Some x) (find_entry_of_serial e.serial (y ∷ ys))) n ∙ r.found;
       rest = ap (λ b. cond (not b) (x ∷ without_serials (e.serial ∷ []) (y ∷ ys)) (without_serials (e.serial ∷ []) (y ∷ ys))) (not_only x.serial e.serial n)
           ∙ ap (λ zs. x ∷ zs) r.rest
           ∙ sym (ap (λ m. take m (x ∷ (y ∷ ys))) one);
@@ -293,20 +293,20 @@ last-none (x ∷ (y ∷ ys)) h =
 abbrev pub IsKept : List Stored → KeyIndex → Type 0
 IsKept es index = SerialsAreDistinct (serials es) × IsKeyIndexOf es index
 
-pub kept-none : (s : ℕ) (es : List Stored) (index : KeyIndex) → find_entry s es ≡ None → IsKept es index → IsKept (without_serials (s ∷ []) es) index
+pub kept-none : (s : ℕ) (es : List Stored) (index : KeyIndex) → find_entry_of_serial s es ≡ None → IsKept es index → IsKept (without_serials (s ∷ []) es) index
 kept-none s es index h k =
     subst (λ zs. IsKept zs index) (sym (without_none s es (sym (is_some-find s es) ∙ ap is_some h))) k
 
-pub kept-without : (s : ℕ) (es : List Stored) (e : Stored) (old new : KeyIndex) → find_entry s es ≡ Some e → SerialIsRemovedFromIndex old e.key s new →
+pub kept-without : (s : ℕ) (es : List Stored) (e : Stored) (old new : KeyIndex) → find_entry_of_serial s es ≡ Some e → SerialIsRemovedFromIndex old e.key s new →
     IsKept es old → IsKept (without_serials (s ∷ []) es) new
 kept-without s es e old new h t k = (SerialsAreDistinct-filter _ es k.0, index-without s es e old new k.0 h k.1 (loses e.key s old new t))
 
-kept-front : (s : ℕ) (es : List Stored) (e x : Stored) (index : KeyIndex) → find_entry s es ≡ Some e → x.serial ≡ s → same_key e.key x.key ≡ true →
+kept-front : (s : ℕ) (es : List Stored) (e x : Stored) (index : KeyIndex) → find_entry_of_serial s es ≡ Some e → x.serial ≡ s → same_key e.key x.key ≡ true →
     IsKept es index → IsKept (x ∷ without_serials (s ∷ []) es) index
 kept-front s es e x index h is same k = (distinct-front s x es is k.0, index-front s es e x index k.0 h is same k.1)
 
 -- a new mark changes no serial
-same_serials : (key : Key) (s : ℕ) (m : VariantMark) (old new : KeyIndex) → SerialMarkIsReplacedInIndex old key s m new → (q : Key) → serials_in_index new q ≡ serials_in_index old q
+same_serials : (key : Key) (s : ℕ) (m : VariantMark) (old new : KeyIndex) → SerialMarkIsReplacedInIndex old key s m new → (q : Key) → serials_at_key_in_index new q ≡ serials_at_key_in_index old q
 same_serials key s m old new a q =
     let ps = serials_and_marks_at old q in
     ap keys_of (a q)
@@ -315,18 +315,18 @@ same_serials key s m old new a q =
       | false ↦ refl
     ])
 
-pub kept-anew : (key : Key) (s : ℕ) (m : VariantMark) (es : List Stored) (e x : Stored) (old new : KeyIndex) → find_entry s es ≡ Some e → x.serial ≡ s →
+pub kept-anew : (key : Key) (s : ℕ) (m : VariantMark) (es : List Stored) (e x : Stored) (old new : KeyIndex) → find_entry_of_serial s es ≡ Some e → x.serial ≡ s →
     same_key e.key x.key ≡ true → SerialMarkIsReplacedInIndex old key s m new → IsKept es old → IsKept (x ∷ without_serials (s ∷ []) es) new
 kept-anew key s m es e x old new h is same a k =
     kept-front s es e x new h is same (k.0, λ q. same_serials key s m old new a q ∙ k.1 q)
 
-kept_promoted_by : (s : ℕ) (es : List Stored) (index : KeyIndex) (o : Option Stored) → find_entry s es ≡ o → IsKept es index →
+kept_promoted_by : (s : ℕ) (es : List Stored) (index : KeyIndex) (o : Option Stored) → find_entry_of_serial s es ≡ o → IsKept es index →
     IsKept (entries_with_first_if_any o (without_serials (s ∷ []) es)) index
 kept_promoted_by s es index None h k = kept-none s es index h k
 kept_promoted_by s es index (Some e) h k = kept-front s es e e index h (find-serial s es e h) (same_key_equiv.refl e.key) k
 
 pub kept-promoted : (s : ℕ) (es : List Stored) (index : KeyIndex) → IsKept es index → IsKept (entries_with_promoted s es) index
-kept-promoted s es index k = kept_promoted_by s es index (find_entry s es) refl k
+kept-promoted s es index k = kept_promoted_by s es index (find_entry_of_serial s es) refl k
 
 pub kept-last : (es : List Stored) (e : Stored) (old new : KeyIndex) → slice_get es (length es - 1) ≡ Some e → SerialIsRemovedFromIndex old e.key e.serial new →
     IsKept es old → IsKept (take (length es - 1) es) new
@@ -350,7 +350,7 @@ marked-taken seed key s es old new t k q =
     let are : Are (same_key key q) = elim (same_key key q) as Are [ true ↦ marks-removed seed (is_at (nat_cmp s)) es ps (k q) | false ↦ k q ] in
     subst (EachMarkIsOfItsEntry seed es) (sym (t q)) are
 
-marked-put : (seed : ℕ) (key : Key) (s : ℕ) (m : VariantMark) (es : List Stored) (old new : KeyIndex) → IfSome (find_entry s es) (λ e. m ≡ mark_of_values seed e.nominated) →
+marked-put : (seed : ℕ) (key : Key) (s : ℕ) (m : VariantMark) (es : List Stored) (old new : KeyIndex) → IfSome (find_entry_of_serial s es) (λ e. m ≡ mark_of_values seed e.nominated) →
     SerialIsInsertedInIndex old key s m new → MarksAreOfTheirEntries seed es old → MarksAreOfTheirEntries seed es new
 marked-put seed key s m es old new f p k q =
     let ps = serials_and_marks_at old q in
@@ -361,7 +361,7 @@ marked-put seed key s m es old new f p k q =
 pub marked-more : (seed : ℕ) (x : Stored) (es : List Stored) (old new : KeyIndex) → holds_serial x.serial es ≡ false → IsKeyIndexOf es old →
     SerialIsInsertedInIndex old x.key x.serial (mark_of_values seed x.nominated) new → MarksAreOfTheirEntries seed es old → MarksAreOfTheirEntries seed (x ∷ es) new
 marked-more seed x es old new n i p k =
-    let first : IfSome (find_entry x.serial (x ∷ es)) (λ e. mark_of_values seed x.nominated ≡ mark_of_values seed e.nominated) = rw (eq-eqb x.serial x.serial refl) refl in
+    let first : IfSome (find_entry_of_serial x.serial (x ∷ es)) (λ e. mark_of_values seed x.nominated ≡ mark_of_values seed e.nominated) = rw (eq-eqb x.serial x.serial refl) refl in
     marked-put seed x.key x.serial (mark_of_values seed x.nominated) (x ∷ es) old new first p
     (λ q. marks-more seed x es (serials_and_marks_at old q) (ap (serial_is_in x.serial) (i q) ∙ not_of_key x.serial q es n) (k q))
 
@@ -369,7 +369,7 @@ marked-more seed x es old new n i p k =
 pub marked-again : (seed : ℕ) (key : Key) (s : ℕ) (m : VariantMark) (es : List Stored) (old mid new : KeyIndex) → holds_serial s es ≡ false → SerialIsInsertedInIndex old key s m mid →
     SerialIsRemovedFromIndex mid key s new → MarksAreOfTheirEntries seed es old → MarksAreOfTheirEntries seed es new
 marked-again seed key s m es old mid new n p t k =
-    let none : IfSome (find_entry s es) (λ e. m ≡ mark_of_values seed e.nominated) = rw (find_none s es n) tt in
+    let none : IfSome (find_entry_of_serial s es) (λ e. m ≡ mark_of_values seed e.nominated) = rw (find_none s es n) tt in
     marked-taken seed key s es mid new t (marked-put seed key s m es old mid none p k)
 
 pub marked-without : (seed : ℕ) (key : Key) (s : ℕ) (es : List Stored) (old new : KeyIndex) → SerialIsRemovedFromIndex old key s new → MarksAreOfTheirEntries seed es old →
@@ -386,14 +386,14 @@ marked-last seed es e old new d h t k =
     subst (λ zs. MarksAreOfTheirEntries seed zs new) l.rest (marked-without seed e.key e.serial es old new t k)
 
 -- a new form of a held entry in its place
-pub marked-anew : (seed : ℕ) (s : ℕ) (es : List Stored) (e x : Stored) (old new : KeyIndex) → find_entry s es ≡ Some e → x.serial ≡ s → same_key e.key x.key ≡ true →
+pub marked-anew : (seed : ℕ) (s : ℕ) (es : List Stored) (e x : Stored) (old new : KeyIndex) → find_entry_of_serial s es ≡ Some e → x.serial ≡ s → same_key e.key x.key ≡ true →
     SerialMarkIsReplacedInIndex old x.key s (mark_of_values seed x.nominated) new → IsKept es old → MarksAreOfTheirEntries seed es old → MarksAreOfTheirEntries seed (x ∷ without_serials (s ∷ []) es) new
 marked-anew seed s es e x old new h is same a kept k q =
     let ps = serials_and_marks_at old q in
     let zs = without_serials (s ∷ []) es in
     let rest : EachMarkIsOfItsEntry seed zs ps = marks-part seed es zs ps (part-without s es) (k q) in
-    let once : serial_is_in s (without_first_serial s (keys_of ps)) ≡ false =
-    ap (λ xs. serial_is_in s (without_first_serial s xs)) (kept.1 q) ∙ ap (serial_is_in s) (sym (serials-without s q es kept.0)) ∙ not_of_key s q zs (without_gone s es) in
+    let once : serial_is_in s (serials_without_first_match s (keys_of ps)) ≡ false =
+    ap (λ xs. serial_is_in s (serials_without_first_match s xs)) (kept.1 q) ∙ ap (serial_is_in s) (sym (serials-without s q es kept.0)) ∙ not_of_key s q zs (without_gone s es) in
     let Are : Bool → Type 0 = λ b. EachMarkIsOfItsEntry seed (x ∷ zs) (cond b (set_value (is_at (nat_cmp s)) ps (mark_of_values seed x.nominated)) ps) in
     subst (EachMarkIsOfItsEntry seed (x ∷ zs)) (sym (a q)) (elim (cases_Bool (same_key x.key q)) [
       | inl y ↦ subst Are (sym y) (marks-anew seed s x zs ps is once rest)
@@ -402,13 +402,13 @@ marked-anew seed s es e x old new h is same a kept k q =
           ) rest)
     ])
 
-marked_promoted_by : (seed : ℕ) (s : ℕ) (es : List Stored) (index : KeyIndex) (o : Option Stored) → find_entry s es ≡ o → MarksAreOfTheirEntries seed es index →
+marked_promoted_by : (seed : ℕ) (s : ℕ) (es : List Stored) (index : KeyIndex) (o : Option Stored) → find_entry_of_serial s es ≡ o → MarksAreOfTheirEntries seed es index →
     MarksAreOfTheirEntries seed (entries_with_first_if_any o (without_serials (s ∷ []) es)) index
 marked_promoted_by seed s es index None h k = marked-none seed s es index k
 marked_promoted_by seed s es index (Some e) h k = marked-part seed es (e ∷ without_serials (s ∷ []) es) index (part-front s es e h) k
 
 pub marked-promoted : (seed : ℕ) (s : ℕ) (es : List Stored) (index : KeyIndex) → MarksAreOfTheirEntries seed es index → MarksAreOfTheirEntries seed (entries_with_promoted s es) index
-marked-promoted seed s es index k = marked_promoted_by seed s es index (find_entry s es) refl k
+marked-promoted seed s es index k = marked_promoted_by seed s es index (find_entry_of_serial s es) refl k
 
 -- ---- entries that go
 
@@ -527,11 +527,11 @@ none_of_key q (e ∷ es) h = elim (cases_Bool (same_key e.key q)) [
 pub key-end : (q : Key) (es : List Stored) → slice_get (serials_of_key q es) 0 ≡ None → entries_without_key q es ≡ es
 key-end q es h = none_of_key q es (nothing (serials_of_key q es) h)
 
-length_front : (s : ℕ) (es : List Stored) (o : Option Stored) → find_entry s es ≡ o → length (entries_with_first_if_any o (without_serials (s ∷ []) es)) ≤ length es
+length_front : (s : ℕ) (es : List Stored) (o : Option Stored) → find_entry_of_serial s es ≡ o → length (entries_with_first_if_any o (without_serials (s ∷ []) es)) ≤ length es
 length_front s es None h = length-filter_le (λ e. not (serial_is_in e.serial (s ∷ []))) es
 length_front s es (Some e) h =
     let l = length-without s es (sym (is_some-find s es) ∙ ap is_some h) in
     omega arith
 
 pub length-promoted : (s : ℕ) (es : List Stored) → length (entries_with_promoted s es) ≤ length es
-length-promoted s es = length_front s es (find_entry s es) refl
+length-promoted s es = length_front s es (find_entry_of_serial s es) refl

@@ -8,7 +8,7 @@ use Rattle.std.proofs.lemmas.List.{take_all}
 use Rattle.lru.specs.LruCache.{LruCache, promoted as lru_promoted, last_entry, put_entries}
 use Rattle.hx_store.specs.Serials.{serial_is_in, SerialsAreDistinct}
 use Rattle.hx_store.specs.Stored.{Stored}
-use Rattle.hx_store.specs.Shelf.{serials, holds_serial, find_entry, without_serials, entries_with_promoted}
+use Rattle.hx_store.specs.Shelf.{serials, holds_serial, find_entry_of_serial, without_serials, entries_with_promoted}
 use Rattle.hx_store.specs.Keyed.{EntriesHaveTheirSerials, EntriesHaveDistinctSerials}
 use Rattle.hx_store.proofs.EntryLists.{eqb_comm, not_only, without_none, find_none, SerialsAreDistinct-filter, SerialsAreDistinct-take, without_gone}
 
@@ -16,15 +16,15 @@ use Rattle.hx_store.proofs.EntryLists.{eqb_comm, not_only, without_none, find_no
 own : (s : ℕ) (p : ℕ × Stored) → p.0 ≡ p.1.serial → eqb s p.0 ≡ eqb p.1.serial s
 own s p h = ap (eqb s) h ∙ eqb_comm s p.1.serial
 
-pub lookup_finds : (s : ℕ) (ps : List (ℕ × Stored)) → EntriesHaveTheirSerials ps → lookup (eqb s) ps ≡ find_entry s (values_of ps)
+pub lookup_finds : (s : ℕ) (ps : List (ℕ × Stored)) → EntriesHaveTheirSerials ps → lookup (eqb s) ps ≡ find_entry_of_serial s (values_of ps)
 lookup_finds s [] h = refl
 lookup_finds s (p ∷ ps) h =
     ap (λ b. cond b (Some p.1) (lookup (eqb s) ps)) (own s p h.0) ∙ ap (cond (eqb p.1.serial s) (Some p.1)) (lookup_finds s ps h.1)
 
-pub is_some-find : (s : ℕ) (es : List Stored) → is_some (find_entry s es) ≡ holds_serial s es
+pub is_some-find : (s : ℕ) (es : List Stored) → is_some (find_entry_of_serial s es) ≡ holds_serial s es
 is_some-find s [] = refl
 is_some-find s (e ∷ es) =
-    elim (eqb e.serial s) as (λ b. is_some (cond b (Some e) (find_entry s es)) ≡ (b || holds_serial s es)) [ true ↦ refl | false ↦ is_some-find s es ]
+    elim (eqb e.serial s) as (λ b. is_some (cond b (Some e) (find_entry_of_serial s es)) ≡ (b || holds_serial s es)) [ true ↦ refl | false ↦ is_some-find s es ]
 
 pub lookup_holds : (s : ℕ) (ps : List (ℕ × Stored)) → EntriesHaveTheirSerials ps → is_some (lookup (eqb s) ps) ≡ holds_serial s (values_of ps)
 lookup_holds s ps h = ap is_some (lookup_finds s ps h) ∙ is_some-find s (values_of ps)
@@ -67,7 +67,7 @@ record Found (s : ℕ) (ps : List (ℕ × Stored)) (p : ℕ × Stored) : Type 0 
   keyed : p.0 ≡ p.1.serial
   serial : p.1.serial ≡ s
   passes : eqb s p.0 ≡ true
-  found : find_entry s (values_of ps) ≡ Some p.1
+  found : find_entry_of_serial s (values_of ps) ≡ Some p.1
   held : holds_serial s (values_of ps) ≡ true
 
 abbrev Looked : ℕ → List (ℕ × Stored) → Option (ℕ × Stored) → Type 0
@@ -79,7 +79,7 @@ on s p ps (Some q) f h = record {
   keyed = h.keyed;
   serial = h.serial;
   passes = h.passes;
-  found = ap (λ b. cond b (Some p.1) (find_entry s (values_of ps))) f ∙ h.found;
+  found = ap (λ b. cond b (Some p.1) (find_entry_of_serial s (values_of ps))) f ∙ h.found;
   held = or_right _ _ h.held;
 }
 
@@ -90,7 +90,7 @@ looked s (p ∷ ps) h = elim (cases_Bool (eqb p.1.serial s)) [
     keyed = h.0;
     serial = eqb-true p.1.serial s t;
     passes = own s p h.0 ∙ t;
-    found = ap (λ b. cond b (Some p.1) (find_entry s (values_of ps))) t;
+    found = ap (λ b. cond b (Some p.1) (find_entry_of_serial s (values_of ps))) t;
     held = or_left _ _ t;
   })
   | inr f ↦ subst (λ b. Looked s (p ∷ ps) (cond b (Some p) (lookup_entry (eqb s) ps))) (sym (own s p h.0 ∙ f)) (on s p ps _ f (looked s ps h.1))

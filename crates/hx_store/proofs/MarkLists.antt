@@ -18,8 +18,8 @@ use Rattle.hx_vary.specs.declared.nominated_values.NominatedValue.{NominatedValu
 use Rattle.hx_vary.proofs.ValueLemmas.{kept_alike}
 use Rattle.hx_store.specs.Serials.{serial_is_in, insert_ascending}
 use Rattle.hx_store.specs.Stored.{Stored}
-use Rattle.hx_store.specs.Shelf.{find_entry, entry_matches_request, without_serials, holds_serial}
-use Rattle.hx_store.specs.Index.{EachMarkIsOfItsEntry, without_first_serial, entry_matches_values, serials_that_may_match}
+use Rattle.hx_store.specs.Shelf.{find_entry_of_serial, entry_vary_matches_request, without_serials, holds_serial}
+use Rattle.hx_store.specs.Index.{EachMarkIsOfItsEntry, serials_without_first_match, entry_matches_values, serials_that_may_match}
 use Rattle.hx_store.proofs.EntryLists.{eqb_comm, not_only, find_none, find-serial, without_gone}
 
 -- ---- the serials alone
@@ -44,11 +44,11 @@ keys-marked test m (p ∷ ps) =
 pub at-eqb : (s t : ℕ) → is_at (nat_cmp s) t ≡ eqb t s
 at-eqb s t = grind (arith, nat_tests)
 
-pub keys-removed : (s : ℕ) (ps : List (ℕ × VariantMark)) → keys_of (remove_entry (is_at (nat_cmp s)) ps) ≡ without_first_serial s (keys_of ps)
+pub keys-removed : (s : ℕ) (ps : List (ℕ × VariantMark)) → keys_of (remove_entry (is_at (nat_cmp s)) ps) ≡ serials_without_first_match s (keys_of ps)
 keys-removed s [] = refl
 keys-removed s (p ∷ ps) =
     ap (λ b. keys_of (cond b ps (p ∷ remove_entry (is_at (nat_cmp s)) ps))) (at-eqb s p.0)
-    ∙ (elim (eqb p.0 s) as (λ b. keys_of (cond b ps (p ∷ remove_entry (is_at (nat_cmp s)) ps)) ≡ cond b (keys_of ps) (p.0 ∷ without_first_serial s (keys_of ps))) [
+    ∙ (elim (eqb p.0 s) as (λ b. keys_of (cond b ps (p ∷ remove_entry (is_at (nat_cmp s)) ps)) ≡ cond b (keys_of ps) (p.0 ∷ serials_without_first_match s (keys_of ps))) [
       | true ↦ refl
       | false ↦ ap (λ xs. p.0 ∷ xs) (keys-removed s ps)
     ])
@@ -82,7 +82,7 @@ set_nothing test (p ∷ ps) m h = absurd (not_cleared (test p.0) (p.0, m) p ps (
 
 -- this mark is that of the entry that the serial finds, if it finds one
 abbrev pub Fits : ℕ → List Stored → ℕ → VariantMark → Type 0
-Fits seed es s m = IfSome (find_entry s es) (λ e. m ≡ mark_of_values seed e.nominated)
+Fits seed es s m = IfSome (find_entry_of_serial s es) (λ e. m ≡ mark_of_values seed e.nominated)
 
 put_by : (seed : ℕ) (es : List Stored) (s : ℕ) (m : VariantMark) (p : ℕ × VariantMark) (ps : List (ℕ × VariantMark)) (o : Ordering) → (o ≡ Equal → s ≡ p.0) → Fits seed es s m → EachMarkIsOfItsEntry seed es (p ∷ ps) →
     EachMarkIsOfItsEntry seed es (insert_entry nat_cmp ps s m) → EachMarkIsOfItsEntry seed es (match_ordering o ((s, m) ∷ p ∷ ps) ((p.0, m) ∷ ps) (p ∷ insert_entry nat_cmp ps s m))
@@ -104,7 +104,7 @@ marks-removed seed test es (p ∷ ps) h =
 
 -- each serial finds in zs what it finds in es, or nothing
 abbrev pub IsPart : List Stored → List Stored → Type 0
-IsPart zs es = (s : ℕ) → (find_entry s zs ≡ None) ⊎ (find_entry s zs ≡ find_entry s es)
+IsPart zs es = (s : ℕ) → (find_entry_of_serial s zs ≡ None) ⊎ (find_entry_of_serial s zs ≡ find_entry_of_serial s es)
 
 pub marks-part : (seed : ℕ) (es zs : List Stored) (ps : List (ℕ × VariantMark)) → IsPart zs es → EachMarkIsOfItsEntry seed es ps → EachMarkIsOfItsEntry seed zs ps
 marks-part seed es zs [] part h = tt
@@ -124,7 +124,7 @@ marks-more seed x es (p ∷ ps) n h =
     (rw apart h.0, marks-more seed x es ps q.1 h.1)
 
 -- an entry in front whose serial stands there once, and is marked anew
-pub marks-anew : (seed : ℕ) (s : ℕ) (x : Stored) (es : List Stored) (ps : List (ℕ × VariantMark)) → x.serial ≡ s → serial_is_in s (without_first_serial s (keys_of ps)) ≡ false → EachMarkIsOfItsEntry seed es ps →
+pub marks-anew : (seed : ℕ) (s : ℕ) (x : Stored) (es : List Stored) (ps : List (ℕ × VariantMark)) → x.serial ≡ s → serial_is_in s (serials_without_first_match s (keys_of ps)) ≡ false → EachMarkIsOfItsEntry seed es ps →
     EachMarkIsOfItsEntry seed (x ∷ es) (set_value (is_at (nat_cmp s)) ps (mark_of_values seed x.nominated))
 marks-anew seed s x es [] is n h = tt
 marks-anew seed s x es (p ∷ ps) is n h =
@@ -134,13 +134,13 @@ marks-anew seed s x es (p ∷ ps) is n h =
       | inl t ↦ (
           let found : eqb x.serial p.0 ≡ true = eq-eqb _ _ (is ∙ sym (eqb-true p.0 s t)) in
           let others : serial_is_in x.serial (keys_of ps) ≡ false =
-          ap (λ z. serial_is_in z (keys_of ps)) is ∙ sym (ap (λ b. serial_is_in s (cond b (keys_of ps) (p.0 ∷ without_first_serial s (keys_of ps)))) t) ∙ n in
+          ap (λ z. serial_is_in z (keys_of ps)) is ∙ sym (ap (λ b. serial_is_in s (cond b (keys_of ps) (p.0 ∷ serials_without_first_match s (keys_of ps)))) t) ∙ n in
           let here : Fits seed (x ∷ es) p.0 m = rw found refl in
           subst New (sym t) (here, marks-more seed x es ps others h.1)
           )
       | inr f ↦ (
           let apart : eqb x.serial p.0 ≡ false = ap (λ z. eqb z p.0) is ∙ eqb_comm s p.0 ∙ f in
-          let rest = or_parts (eqb p.0 s) (serial_is_in s (without_first_serial s (keys_of ps))) (sym (ap (λ b. serial_is_in s (cond b (keys_of ps) (p.0 ∷ without_first_serial s (keys_of ps)))) f) ∙ n) in
+          let rest = or_parts (eqb p.0 s) (serial_is_in s (serials_without_first_match s (keys_of ps))) (sym (ap (λ b. serial_is_in s (cond b (keys_of ps) (p.0 ∷ serials_without_first_match s (keys_of ps)))) f) ∙ n) in
           let here : Fits seed (x ∷ es) p.0 p.1 = rw apart h.0 in
           subst New (sym f) (here, marks-anew seed s x es ps is rest.1 h.1)
           )
@@ -148,17 +148,17 @@ marks-anew seed s x es (p ∷ ps) is n h =
 
 -- ---- what serials find
 
-find-without : (s t : ℕ) (es : List Stored) → eqb t s ≡ false → find_entry t (without_serials (s ∷ []) es) ≡ find_entry t es
+find-without : (s t : ℕ) (es : List Stored) → eqb t s ≡ false → find_entry_of_serial t (without_serials (s ∷ []) es) ≡ find_entry_of_serial t es
 find-without s t [] n = refl
 find-without s t (e ∷ es) n = elim (cases_Bool (eqb e.serial s)) [
   | inl y ↦ (
       let gone : serial_is_in e.serial (s ∷ []) ≡ true = ap (λ z. serial_is_in z (s ∷ [])) (eqb-true e.serial s y) ∙ ap (λ b. b || false) (eq-eqb s s refl) in
       let apart : eqb e.serial t ≡ false = ap (λ z. eqb z t) (eqb-true e.serial s y) ∙ eqb_comm s t ∙ n in
-      ap (λ b. find_entry t (cond (not b) (e ∷ without_serials (s ∷ []) es) (without_serials (s ∷ []) es))) gone
+      ap (λ b. find_entry_of_serial t (cond (not b) (e ∷ without_serials (s ∷ []) es) (without_serials (s ∷ []) es))) gone
       ∙ find-without s t es n
-      ∙ sym (ap (λ b. cond b (Some e) (find_entry t es)) apart)
+      ∙ sym (ap (λ b. cond b (Some e) (find_entry_of_serial t es)) apart)
       )
-  | inr f ↦ ap (λ b. find_entry t (cond (not b) (e ∷ without_serials (s ∷ []) es) (without_serials (s ∷ []) es))) (not_only e.serial s f)
+  | inr f ↦ ap (λ b. find_entry_of_serial t (cond (not b) (e ∷ without_serials (s ∷ []) es) (without_serials (s ∷ []) es))) (not_only e.serial s f)
       ∙ ap (λ o. cond (eqb e.serial t) (Some e) o) (find-without s t es n)
 ]
 
@@ -168,16 +168,16 @@ part-without s es t = elim (cases_Bool (eqb t s)) [
   | inr n ↦ inr (find-without s t es n)
 ]
 
-pub part-front : (s : ℕ) (es : List Stored) (x : Stored) → find_entry s es ≡ Some x → IsPart (x ∷ without_serials (s ∷ []) es) es
+pub part-front : (s : ℕ) (es : List Stored) (x : Stored) → find_entry_of_serial s es ≡ Some x → IsPart (x ∷ without_serials (s ∷ []) es) es
 part-front s es x h t =
     let is : x.serial ≡ s = find-serial s es x h in
     elim (cases_Bool (eqb x.serial t)) [
       | inl y ↦ inr (
-          ap (λ b. cond b (Some x) (find_entry t (without_serials (s ∷ []) es))) y
-          ∙ sym h ∙ ap (λ z. find_entry z es) (sym is ∙ eqb-true x.serial t y)
+          ap (λ b. cond b (Some x) (find_entry_of_serial t (without_serials (s ∷ []) es))) y
+          ∙ sym h ∙ ap (λ z. find_entry_of_serial z es) (sym is ∙ eqb-true x.serial t y)
           )
       | inr n ↦ inr (
-          ap (λ b. cond b (Some x) (find_entry t (without_serials (s ∷ []) es))) n
+          ap (λ b. cond b (Some x) (find_entry_of_serial t (without_serials (s ∷ []) es))) n
           ∙ find-without s t es (eqb_comm t s ∙ ap (λ z. eqb z t) (sym is) ∙ n)
           )
     ]
@@ -189,19 +189,19 @@ abbrev pub PassesMatches : ℕ → List Field → (ℕ → Bool) → Type 0
 PassesMatches seed request has = (kept : List NominatedValue) → vary_matches kept request ≡ true → mark_may_match has (mark_of_values seed kept) ≡ true
 
 mark_passes : (seed : ℕ) (request : List Field) (has : ℕ → Bool) → PassesMatches seed request has → (es : List Stored) (s : ℕ) (m : VariantMark) → Fits seed es s m →
-    entry_matches_request request (find_entry s es) ≡ true → mark_may_match has m ≡ true
-mark_passes seed request has passes es s m f h = by (find_entry s es) f h
+    entry_vary_matches_request request (find_entry_of_serial s es) ≡ true → mark_may_match has m ≡ true
+mark_passes seed request has passes es s m f h = by (find_entry_of_serial s es) f h
   where
-    by : (o : Option Stored) → IfSome o (λ (e : Stored). m ≡ mark_of_values seed e.nominated) → entry_matches_request request o ≡ true → mark_may_match has m ≡ true
+    by : (o : Option Stored) → IfSome o (λ (e : Stored). m ≡ mark_of_values seed e.nominated) → entry_vary_matches_request request o ≡ true → mark_may_match has m ≡ true
     by None f h = absurd (false≢true h)
     by (Some e) f h = ap (mark_may_match has) f ∙ passes e.nominated h
 
 -- what isn't looked at doesn't match
 pub looks_enough : (seed : ℕ) (request : List Field) (has : ℕ → Bool) → PassesMatches seed request has → (es : List Stored) (ps : List (ℕ × VariantMark)) → EachMarkIsOfItsEntry seed es ps →
-    filter (λ s. entry_matches_request request (find_entry s es)) (serials_that_may_match has ps) ≡ filter (λ s. entry_matches_request request (find_entry s es)) (keys_of ps)
+    filter (λ s. entry_vary_matches_request request (find_entry_of_serial s es)) (serials_that_may_match has ps) ≡ filter (λ s. entry_vary_matches_request request (find_entry_of_serial s es)) (keys_of ps)
 looks_enough seed request has passes es [] h = refl
 looks_enough seed request has passes es (p ∷ ps) h =
-    let is : ℕ → Bool = λ s. entry_matches_request request (find_entry s es) in
+    let is : ℕ → Bool = λ s. entry_vary_matches_request request (find_entry_of_serial s es) in
     let more = looks_enough seed request has passes es ps h.1 in
     elim (cases_Bool (mark_may_match has p.1)) [
       | inl y ↦ ap (λ b. filter is (keys_of (cond b (p ∷ filter (λ (q : ℕ × VariantMark). mark_may_match has q.1) ps) (filter (λ (q : ℕ × VariantMark). mark_may_match has q.1) ps)))) y
@@ -218,12 +218,12 @@ looks_enough seed request has passes es (p ∷ ps) h =
 
 -- values that are the request's decide as it would
 pub by_values : (request : List Field) (values : BTreeMap (List ℕ) (List ℕ)) → MapHasEachCombinedValue request values → (es : List Stored) (ss : List ℕ) →
-    filter (λ s. entry_matches_values values (find_entry s es)) ss ≡ filter (λ s. entry_matches_request request (find_entry s es)) ss
+    filter (λ s. entry_matches_values values (find_entry_of_serial s es)) ss ≡ filter (λ s. entry_vary_matches_request request (find_entry_of_serial s es)) ss
 by_values request values h es [] = refl
 by_values request values h es (s ∷ ss) =
-    ap (λ b. cond b (s ∷ filter (λ (t : ℕ). entry_matches_values values (find_entry t es)) ss) (filter (λ (t : ℕ). entry_matches_values values (find_entry t es)) ss)) (same (find_entry s es))
-    ∙ ap (λ xs. cond (entry_matches_request request (find_entry s es)) (s ∷ xs) xs) (by_values request values h es ss)
+    ap (λ b. cond b (s ∷ filter (λ (t : ℕ). entry_matches_values values (find_entry_of_serial t es)) ss) (filter (λ (t : ℕ). entry_matches_values values (find_entry_of_serial t es)) ss)) (same (find_entry_of_serial s es))
+    ∙ ap (λ xs. cond (entry_vary_matches_request request (find_entry_of_serial s es)) (s ∷ xs) xs) (by_values request values h es ss)
   where
-    same : (o : Option Stored) → entry_matches_values values o ≡ entry_matches_request request o
+    same : (o : Option Stored) → entry_matches_values values o ≡ entry_vary_matches_request request o
     same None = refl
     same (Some e) = kept_alike request values h e.nominated

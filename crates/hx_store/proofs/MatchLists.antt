@@ -11,8 +11,8 @@ use Rattle.hx_target.specs.Keys.{same_key}
 use Rattle.hx_vary.specs.Vary.{vary_matches}
 use Rattle.hx_store.specs.Serials.{serial_is_in, SerialsAreDistinct, insert_ascending}
 use Rattle.hx_store.specs.Stored.{Stored}
-use Rattle.hx_store.specs.Shelf.{serials, find_entry, serials_of_key, entry_matches_request, matching_serials}
-use Rattle.hx_store.specs.Found.{SerialIsAtMostEachOf, SerialsAreAscending}
+use Rattle.hx_store.specs.Shelf.{serials, find_entry_of_serial, serials_of_key, entry_vary_matches_request, matching_serials}
+use Rattle.hx_store.specs.Found.{SerialIsAtMostEachOf, SerialsNeverDescend}
 use Rattle.hx_store.proofs.FoundSerials.{below_less, finds_ascending, finds_those}
 use Rattle.hx_store.proofs.Indices.{not_nothing}
 use Rattle.hx_store.proofs.IndexedLists.{insert-below, not_of_key}
@@ -23,7 +23,7 @@ below_filter p a (x ∷ xs) h =
     elim (p x) as (λ b. SerialIsAtMostEachOf a (cond b (x ∷ filter p xs) (filter p xs))) [ true ↦ (h.0, below_filter p a xs h.1) | false ↦ below_filter p a xs h.1 ]
 
 -- what passes goes where it would go among those that pass
-filter-insert : (p : ℕ → Bool) (s : ℕ) (xs : List ℕ) → SerialsAreAscending xs →
+filter-insert : (p : ℕ → Bool) (s : ℕ) (xs : List ℕ) → SerialsNeverDescend xs →
     filter p (insert_ascending s xs) ≡ cond (p s) (insert_ascending s (filter p xs)) (filter p xs)
 filter-insert p s [] h = refl
 filter-insert p s (x ∷ xs) h = elim (leb_tells s x) [
@@ -55,11 +55,11 @@ filter-agree p q (x ∷ xs) h =
 
 -- one entry more is found by its serial alone
 others_match : (key : Key) (request : List Field) (e : Stored) (es : List Stored) → SerialsAreDistinct (serials (e ∷ es)) →
-    filter (λ s. entry_matches_request request (find_entry s (e ∷ es))) (serials_of_key key es) ≡ matching_serials key request es
+    filter (λ s. entry_vary_matches_request request (find_entry_of_serial s (e ∷ es))) (serials_of_key key es) ≡ matching_serials key request es
 others_match key request e es d = filter-agree _ _ (serials_of_key key es) (λ s m.
     let apart : eqb e.serial s ≡ false = false_from_ne_true _ (λ t. false≢true (
     sym (not_of_key e.serial key es d.0) ∙ ap (λ z. serial_is_in z (serials_of_key key es)) (eqb-true e.serial s t) ∙ m)) in
-    ap (λ b. entry_matches_request request (cond b (Some e) (find_entry s es))) apart)
+    ap (λ b. entry_vary_matches_request request (cond b (Some e) (find_entry_of_serial s es))) apart)
 
 -- it makes no odds whether the entries are tested first or their serials
 pub walked : (key : Key) (request : List Field) (es : List Stored) → SerialsAreDistinct (serials es) →
@@ -67,10 +67,10 @@ pub walked : (key : Key) (request : List Field) (es : List Stored) → SerialsAr
 walked key request [] d = refl
 walked key request (e ∷ es) d =
     let is : Stored → Bool = λ f. vary_matches f.nominated request in
-    let test : ℕ → Bool = λ s. entry_matches_request request (find_entry s (e ∷ es)) in
+    let test : ℕ → Bool = λ s. entry_vary_matches_request request (find_entry_of_serial s (e ∷ es)) in
     let xs = serials_of_key key es in
     let same : filter test xs ≡ serials_of_key key (filter is es) = others_match key request e es d ∙ sym (walked key request es d.1) in
-    let its : test e.serial ≡ is e = ap (λ b. entry_matches_request request (cond b (Some e) (find_entry e.serial es))) (eq-eqb e.serial e.serial refl) in
+    let its : test e.serial ≡ is e = ap (λ b. entry_vary_matches_request request (cond b (Some e) (find_entry_of_serial e.serial es))) (eq-eqb e.serial e.serial refl) in
     let some = serials_of_key key (filter is es) in
     sym (elim (cases_Bool (same_key e.key key)) [
       | inl y ↦ (
@@ -136,9 +136,9 @@ finds_matches key request s es d =
     ∙ finds_those key s (filter (λ (e : Stored). vary_matches e.nominated request) es)
     ∙ any_of_filter (λ e. vary_matches e.nominated request) (λ e. same_key e.key key && eqb e.serial s) es
 
-pub matches_ascend : (key : Key) (request : List Field) (es : List Stored) → SerialsAreDistinct (serials es) → SerialsAreAscending (matching_serials key request es)
+pub matches_ascend : (key : Key) (request : List Field) (es : List Stored) → SerialsAreDistinct (serials es) → SerialsNeverDescend (matching_serials key request es)
 matches_ascend key request es d =
-    subst SerialsAreAscending (walked key request es d) (finds_ascending key (filter (λ (e : Stored). vary_matches e.nominated request) es))
+    subst SerialsNeverDescend (walked key request es d) (finds_ascending key (filter (λ (e : Stored). vary_matches e.nominated request) es))
 
 -- where all pass a test, none is left out
 pub filter_all : {X : Type 0} (p : X → Bool) (xs : List X) → list_all p xs ≡ true → filter p xs ≡ xs

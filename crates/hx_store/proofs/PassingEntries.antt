@@ -11,7 +11,7 @@ use Rattle.hx_target.specs.Keys.{same_key}
 use Rattle.hx_store.specs.Stored.{Stored}
 use Rattle.hx_store.specs.Serials.{serial_is_in, SerialsAreDistinct, insert_ascending, ascending}
 use Rattle.hx_store.specs.Shelf.{serials, serials_of_key, serials_of_entries_that_pass, without_serials}
-use Rattle.hx_store.specs.Found.{SerialIsAtMostEachOf, SerialsAreAscending}
+use Rattle.hx_store.specs.Found.{SerialIsAtMostEachOf, SerialsNeverDescend}
 use Rattle.hx_store.proofs.EntryLists.{eqb_comm}
 use Rattle.hx_store.proofs.FoundSerials.{is_in-insert, ascending_insert}
 
@@ -30,11 +30,11 @@ module _ (passes : Stored → Bool) where
         | false ↦ more
       ]
 
-  pub passing_ascend : (es : List Stored) → SerialsAreAscending (serials_of_entries_that_pass passes es)
+  pub passing_ascend : (es : List Stored) → SerialsNeverDescend (serials_of_entries_that_pass passes es)
   passing_ascend [] = tt
   passing_ascend (e ∷ es) =
       let more = passing_ascend es in
-      elim (passes e) as (λ b. SerialsAreAscending (cond b (insert_ascending e.serial (serials_of_entries_that_pass passes es)) (serials_of_entries_that_pass passes es))) [
+      elim (passes e) as (λ b. SerialsNeverDescend (cond b (insert_ascending e.serial (serials_of_entries_that_pass passes es)) (serials_of_entries_that_pass passes es))) [
         | true ↦ ascending_insert e.serial (serials_of_entries_that_pass passes es) more
         | false ↦ more
       ]
@@ -154,7 +154,7 @@ same_first x y xs ys a b same = by_order (leb_tells x y) (leb_tells y x)
     by_order (inr p) q = absurd (no_less y x xs ys p.1 a (same y))
 
 -- ascending lists with the same members are the same
-same_ascending : (xs ys : List ℕ) → SerialsAreAscending xs → SerialsAreAscending ys → ((s : ℕ) → count s xs ≡ count s ys) → xs ≡ ys
+same_ascending : (xs ys : List ℕ) → SerialsNeverDescend xs → SerialsNeverDescend ys → ((s : ℕ) → count s xs ≡ count s ys) → xs ≡ ys
 same_ascending [] [] a b same = refl
 same_ascending [] (y ∷ ys) a b same = let e : 0 ≡ 1 + count y ys = same y ∙ count_itself y ys in absurd (omega (arith, e))
 same_ascending (x ∷ xs) [] a b same = let e : 1 + count x xs ≡ 0 = sym (count_itself x xs) ∙ same x in absurd (omega (arith, e))
@@ -162,7 +162,7 @@ same_ascending (x ∷ xs) (y ∷ ys) a b same =
     let first = same_first x y xs ys a.0 b.0 same in
     ap (λ z. z ∷ xs) first ∙ ap (λ zs. y ∷ zs) (same_ascending xs ys a.1 b.1 (λ s. same_rest x y s xs ys first (same s)))
 
-ascends : (xs : List ℕ) → SerialsAreAscending (ascending xs)
+ascends : (xs : List ℕ) → SerialsNeverDescend (ascending xs)
 ascends [] = tt
 ascends (x ∷ xs) = ascending_insert x (ascending xs) (ascends xs)
 
@@ -170,7 +170,7 @@ none_below : (x : ℕ) (xs : List ℕ) → ((j : ℕ) → j < length xs → x �
 none_below x [] h = tt
 none_below x (y ∷ ys) h = (h 0 (omega arith), none_below x ys (λ j k. h (suc j) (omega (arith, k))))
 
-rises : (xs : List ℕ) → IsNonDecreasingBy (λ (x : ℕ). x) xs → SerialsAreAscending xs
+rises : (xs : List ℕ) → IsNonDecreasingBy (λ (x : ℕ). x) xs → SerialsNeverDescend xs
 rises [] h = tt
 rises (x ∷ xs) h = (none_below x xs (λ j k. h 0 (suc j) x (omega arith) (omega (arith, k))), rises xs (λ i j d p q. h (suc i) (suc j) d (omega (arith, p)) (omega (arith, q))))
 

@@ -7,7 +7,7 @@ use Rattle.std.proofs.lemmas.Bool.Decides.{nat_tests}
 use Rattle.std.proofs.lemmas.List.{take-append-drop, append-nil, length-take}
 use Rattle.std.proofs.lemmas.List.Elements.{filter-append}
 use Rattle.hx_store.specs.Serials.{serial_is_in, SerialsAreDistinct}
-use Rattle.hx_store.specs.Recency.{StoreChange, option_is_serial, stores_or_uses, moved_to_front, recent_after_change, recent_of, count_before_serial, NoChangeStoresOrUsesSerial, Held, stayed_within_count, is_held, held_serials_of, lru_list_of, SerialIsStoredAndNotRemoved, NoChangeRemovesSerial}
+use Rattle.hx_store.specs.Recency.{StoreChange, option_is_serial, stores_or_uses, moved_to_front, recent_after_change, recent_of, count_before_serial, NoChangeStoresOrUsesSerial, Held, serial_stayed_within_count, is_held, held_serials_of, lru_list_of, SerialIsStoredOrUsedAndNotRemovedSince, NoChangeRemovesSerial}
 
 or_assoc : (a b c : Bool) → (a || (b || c)) ≡ (a || b || c)
 or_assoc true b c = refl
@@ -142,9 +142,9 @@ is_in-bounded C (i ∷ past) s =
     in
     is_in-take s C xs
     ∙ ap (λ b. b && ltb (count_before_serial s xs) C) m
-    ∙ held_step (stores_or_uses i s) (serial_is_in s (recent_of past)) (stayed_within_count C s past) (not gone) (ltb (count_before_serial s xs) C) (ltb (count_before_serial s (recent_of (i ∷ past))) C)
+    ∙ held_step (stores_or_uses i s) (serial_is_in s (recent_of past)) (serial_stayed_within_count C s past) (not gone) (ltb (count_before_serial s xs) C) (ltb (count_before_serial s (recent_of (i ∷ past))) C)
     (λ g. ap (λ n. ltb n C) (sym (place-append s xs a.0 (m ∙ g)) ∙ ap (count_before_serial s) e))
-    ∙ ap (λ b. b && (ltb (count_before_serial s (recent_of (i ∷ past))) C && (stores_or_uses i s || stayed_within_count C s past))) (sym (is_in-after s i (recent_of past)))
+    ∙ ap (λ b. b && (ltb (count_before_serial s (recent_of (i ∷ past))) C && (stores_or_uses i s || serial_stayed_within_count C s past))) (sym (is_in-after s i (recent_of past)))
 
 pub SerialsAreDistinct-filter : (p : ℕ → Bool) (xs : List ℕ) → SerialsAreDistinct xs → SerialsAreDistinct (filter p xs)
 SerialsAreDistinct-filter p [] d = tt
@@ -211,7 +211,7 @@ in_before true r n h e = absurd (false≢true (sym e))
 in_before false true n h e = refl
 in_before false false n h e = h
 
-pub counted : (C : ℕ) (s : ℕ) (past : List StoreChange) → serial_is_in s (recent_of past) ≡ true → stayed_within_count C s past ≡ true →
+pub counted : (C : ℕ) (s : ℕ) (past : List StoreChange) → serial_is_in s (recent_of past) ≡ true → serial_stayed_within_count C s past ≡ true →
     (later earlier : List StoreChange) → later ++ earlier ≡ past → NoChangeStoresOrUsesSerial later s → count_before_serial s (recent_of earlier) < C
 counted C s [] i k [] earlier e n = absurd (false≢true i)
 counted C s (x ∷ past) i k [] earlier e n =
@@ -229,7 +229,7 @@ counted C s (x ∷ past) i k (y ∷ later) earlier e n =
 
 pub keeps : (C : ℕ) (s : ℕ) (past : List StoreChange) → serial_is_in s (recent_of past) ≡ true →
     ((later earlier : List StoreChange) → later ++ earlier ≡ past → NoChangeStoresOrUsesSerial later s → count_before_serial s (recent_of earlier) < C) →
-    stayed_within_count C s past ≡ true
+    serial_stayed_within_count C s past ≡ true
 keeps C s [] i h = refl
 keeps C s (x ∷ past) i h =
     and_from _ _ (lt-ltb _ _ (h [] (x ∷ past) refl tt)) (
@@ -274,7 +274,7 @@ not_true : (b : Bool) → not b ≡ true → b ≡ false
 not_true true h = absurd (false≢true h)
 not_true false h = refl
 
-is_listed : (past : List StoreChange) (s : ℕ) → serial_is_in s (recent_of past) ≡ true → SerialIsStoredAndNotRemoved past s
+is_listed : (past : List StoreChange) (s : ℕ) → serial_is_in s (recent_of past) ≡ true → SerialIsStoredOrUsedAndNotRemovedSince past s
 is_listed [] s h = absurd (false≢true h)
 is_listed (i ∷ past) s h =
     let p = and_parts (stores_or_uses i s || serial_is_in s (recent_of past)) _ (sym (is_in-after s i (recent_of past)) ∙ h) in
@@ -294,7 +294,7 @@ listed_is (j ∷ later) i earlier s t off n =
     is_in-after s j (recent_of (later ++ i ∷ earlier)) ∙ and_not _ _ (or_right _ _ (listed_is later i earlier s t off n.1)) n.0
 
 -- the recent serials are those stored or used and not removed since
-pub Decides-recent : (past : List StoreChange) (s : ℕ) → Decides (serial_is_in s (recent_of past)) (SerialIsStoredAndNotRemoved past s)
+pub Decides-recent : (past : List StoreChange) (s : ℕ) → Decides (serial_is_in s (recent_of past)) (SerialIsStoredOrUsedAndNotRemovedSince past s)
 Decides-recent past s = (
   is_listed past s,
   λ q. ap (λ zs. serial_is_in s (recent_of zs)) (sym q.3) ∙ listed_is q.0 q.1 q.2 s q.4 q.5 q.6,

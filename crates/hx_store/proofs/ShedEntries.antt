@@ -6,8 +6,8 @@ use Rattle.std.proofs.lemmas.List.{take-append-drop, length-append, length-take,
 use Rattle.std.proofs.lemmas.List.Sums.{sum_by-append}
 use Rattle.std.proofs.lemmas.Option.{same_Some}
 use Rattle.hx_store.specs.Stored.{Stored}
-use Rattle.hx_store.specs.Weights.{StoreBounds, IsLongestPrefixWithin, prefix_within_weight, prefix_of_weight_if_any, weight_of_entry, total_weight, cut_to_bounds, entry_evicted_by_weight, entries_after_weight_eviction}
-use Rattle.hx_store.proofs.CountedWeights.{length-entries_after_weight_eviction}
+use Rattle.hx_store.specs.Weights.{StoreBounds, IsLongestPrefixWithin, prefix_within_weight, prefix_of_weight_if_any, weight_of_entry, total_weight, cut_to_bounds, entry_evicted_by_weight, entries_after_one_weight_eviction}
+use Rattle.hx_store.proofs.CountedWeights.{length-entries_after_one_weight_eviction}
 use Rattle.hx_store.proofs.Fronts.{front_of_within, front_of_taken, cut_is_longest, one_longest, within_stays}
 
 nothing_left : (rest : List Stored) → length rest ≤ 0 → rest ≡ []
@@ -49,7 +49,7 @@ without_last number most es over =
     one_longest bounds weight_of_entry es (cut_to_bounds bounds front) (cut_to_bounds bounds es) k (cut_is_longest bounds weight_of_entry es)
 
 pub shedding_keeps_the_cut : (number most : ℕ) (es : List Stored) →
-    cut_to_bounds (record { entries = number; bytes = Some most }) (entries_after_weight_eviction most es) ≡ cut_to_bounds (record { entries = number; bytes = Some most }) es
+    cut_to_bounds (record { entries = number; bytes = Some most }) (entries_after_one_weight_eviction most es) ≡ cut_to_bounds (record { entries = number; bytes = Some most }) es
 shedding_keeps_the_cut number most es = elim (cases_Bool (ltb most (total_weight es))) [
   | inl t ↦ ap (λ b. cut_to_bounds (record { entries = number; bytes = Some most }) (cond b (take (length es - 1) es) es)) t
       ∙ without_last number most es (ltb-true most (total_weight es) t)
@@ -81,7 +81,7 @@ nothing_shed most es h = elim (cases_Bool (ltb most (total_weight es))) [
   | inr f ↦ ltb-false most (total_weight es) f
 ]
 
-pub shed_is_last : (most : ℕ) (es : List Stored) (e : Stored) → entry_evicted_by_weight most es ≡ Some e → entries_after_weight_eviction most es ++ e ∷ [] ≡ es
+pub shed_is_last : (most : ℕ) (es : List Stored) (e : Stored) → entry_evicted_by_weight most es ≡ Some e → entries_after_one_weight_eviction most es ++ e ∷ [] ≡ es
 shed_is_last most es e h = elim (cases_Bool (ltb most (total_weight es))) [
   | inl t ↦ (
       let q = last_goes es (weighs_something most es (ltb-true most (total_weight es) t)) in
@@ -110,9 +110,9 @@ by_number : (most : ℕ) (number : ℕ) (es : List Stored) → length es ≤ num
     cut_to_bounds (record { entries = number; bytes = Some most }) es ≡ prefix_within_weight weight_of_entry most es
 by_number most number es l = ap (prefix_within_weight weight_of_entry most) (take_all number es l)
 
-pub shedding_keeps_the_front : (most : ℕ) (es : List Stored) → prefix_within_weight weight_of_entry most (entries_after_weight_eviction most es) ≡ prefix_within_weight weight_of_entry most es
+pub shedding_keeps_the_front : (most : ℕ) (es : List Stored) → prefix_within_weight weight_of_entry most (entries_after_one_weight_eviction most es) ≡ prefix_within_weight weight_of_entry most es
 shedding_keeps_the_front most es =
-    sym (by_number most (length es) (entries_after_weight_eviction most es) (length-entries_after_weight_eviction most es))
+    sym (by_number most (length es) (entries_after_one_weight_eviction most es) (length-entries_after_one_weight_eviction most es))
     ∙ shedding_keeps_the_cut (length es) most es
     ∙ by_number most (length es) es (omega arith)
 
@@ -121,11 +121,11 @@ nothing_shed_is_the_front most es h =
     sym (by_number most (length es) es (omega arith)) ∙ shed_until_within (length es) most es (omega arith) h
 
 -- what was shed is no longer there
-pub shed_is_shorter : (most : ℕ) (es : List Stored) (e : Stored) → entry_evicted_by_weight most es ≡ Some e → length (entries_after_weight_eviction most es) < length es
+pub shed_is_shorter : (most : ℕ) (es : List Stored) (e : Stored) → entry_evicted_by_weight most es ≡ Some e → length (entries_after_one_weight_eviction most es) < length es
 shed_is_shorter most es e h =
-    omega (arith, ap length (shed_is_last most es e h), length-append (entries_after_weight_eviction most es) (e ∷ []))
+    omega (arith, ap length (shed_is_last most es e h), length-append (entries_after_one_weight_eviction most es) (e ∷ []))
 
-pub nothing_shed_stays : (most : ℕ) (es : List Stored) → entry_evicted_by_weight most es ≡ None → entries_after_weight_eviction most es ≡ es
+pub nothing_shed_stays : (most : ℕ) (es : List Stored) → entry_evicted_by_weight most es ≡ None → entries_after_one_weight_eviction most es ≡ es
 nothing_shed_stays most es h =
     let l = nothing_shed most es h in
     ap (λ b. cond b (take (length es - 1) es) es) (le-ltb most (total_weight es) l)

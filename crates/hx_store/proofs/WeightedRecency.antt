@@ -6,9 +6,9 @@ use Rattle.std.specs.Option.{IfSome}
 use Rattle.std.proofs.lemmas.Bool.{cases_Bool, and_parts, or_cases, and_from, or_left, or_right, false≢true, lt-ltb, ltb-true, le-leb, leb-true, lt-leb, leb-false, eqb-true}
 use Rattle.std.proofs.lemmas.List.{take-append-drop}
 use Rattle.hx_store.specs.Serials.{serial_is_in, SerialsAreDistinct}
-use Rattle.hx_store.specs.Recency.{stores_or_uses, recent_after_change, recent_of, count_before_serial, NoChangeStoresOrUsesSerial, Held, is_held, stayed_within_count, held_serials_of, lru_list_of}
+use Rattle.hx_store.specs.Recency.{stores_or_uses, recent_after_change, recent_of, count_before_serial, NoChangeStoresOrUsesSerial, Held, is_held, serial_stayed_within_count, held_serials_of, lru_list_of}
 use Rattle.hx_store.specs.Weights.{StoreBounds, IsWithinBounds, prefix_within_weight, prefix_of_weight_if_any, longest_prefix_within}
-use Rattle.hx_store.specs.WeightedRecency.{WeighedChange, changes_of, weight_before_serial, SerialIsWithinBounds, SerialIsHeldWithinBounds, weight_fits_limit, serial_is_within_bounds, stayed_within_bounds, is_held_within_bounds, serials_within_bounds, weighed_lru_list_of}
+use Rattle.hx_store.specs.WeightedRecency.{WeighedChange, changes_of, weight_of_more_recent_serials, SerialIsWithinBounds, SerialIsHeldWithinBounds, weight_fits_limit, serial_is_within_bounds, serial_stayed_within_bounds, serial_is_held_within_bounds, serials_within_bounds, lru_list_within_bounds}
 use Rattle.hx_store.proofs.Recency.{and_false, is_in-take, is_in-after, after-append, place-append, held_step, SerialsAreDistinct-recent, filter_front, in_before, Decides-held, law}
 use Rattle.hx_store.proofs.Fronts.{cut_is_longest, front_of_within}
 
@@ -20,19 +20,19 @@ fits_behind x n most h = elim (cases_Bool (leb (x + n) most)) [
 ]
 
 -- the serial is the first, or it is behind
-weight_at : (w : ℕ → ℕ) (s x : ℕ) (xs : List ℕ) → eqb x s ≡ true → weight_before_serial w s (x ∷ xs) + w s ≡ w x
+weight_at : (w : ℕ → ℕ) (s x : ℕ) (xs : List ℕ) → eqb x s ≡ true → weight_of_more_recent_serials w s (x ∷ xs) + w s ≡ w x
 weight_at w s x xs t =
-    let z : weight_before_serial w s (x ∷ xs) ≡ 0 = ap (λ e. cond e 0 (w x + weight_before_serial w s xs)) t in
+    let z : weight_of_more_recent_serials w s (x ∷ xs) ≡ 0 = ap (λ e. cond e 0 (w x + weight_of_more_recent_serials w s xs)) t in
     let k : w x ≡ w s = ap w (eqb-true x s t) in
     omega arith
 
-weight_behind : (w : ℕ → ℕ) (s x : ℕ) (xs : List ℕ) → eqb x s ≡ false → weight_before_serial w s (x ∷ xs) + w s ≡ w x + (weight_before_serial w s xs + w s)
+weight_behind : (w : ℕ → ℕ) (s x : ℕ) (xs : List ℕ) → eqb x s ≡ false → weight_of_more_recent_serials w s (x ∷ xs) + w s ≡ w x + (weight_of_more_recent_serials w s xs + w s)
 weight_behind w s x xs f =
-    let z : weight_before_serial w s (x ∷ xs) ≡ w x + weight_before_serial w s xs = ap (λ e. cond e 0 (w x + weight_before_serial w s xs)) f in
+    let z : weight_of_more_recent_serials w s (x ∷ xs) ≡ w x + weight_of_more_recent_serials w s xs = ap (λ e. cond e 0 (w x + weight_of_more_recent_serials w s xs)) f in
     omega arith
 
 is_in-front : (w : ℕ → ℕ) (s most : ℕ) (xs : List ℕ) →
-    serial_is_in s (prefix_within_weight w most xs) ≡ (serial_is_in s xs && leb (weight_before_serial w s xs + w s) most)
+    serial_is_in s (prefix_within_weight w most xs) ≡ (serial_is_in s xs && leb (weight_of_more_recent_serials w s xs + w s) most)
 is_in-front w s most [] = refl
 is_in-front w s most (x ∷ xs) =
     let rest = prefix_within_weight w (most - w x) xs in
@@ -41,7 +41,7 @@ is_in-front w s most (x ∷ xs) =
       | inl t ↦ (
           ap (λ e. serial_is_in s (cond (leb (w x) most) (x ∷ rest) [])) t
           ∙ here (leb (w x) most) t
-          ∙ sym (ap (λ e. (e || serial_is_in s xs) && leb (weight_before_serial w s (x ∷ xs) + w s) most) t
+          ∙ sym (ap (λ e. (e || serial_is_in s xs) && leb (weight_of_more_recent_serials w s (x ∷ xs) + w s) most) t
           ∙ ap (λ n. leb n most) (weight_at w s x xs t))
           )
       | inr f ↦ elim (cases_Bool (leb (w x) most)) [
@@ -49,15 +49,15 @@ is_in-front w s most (x ∷ xs) =
             ap (λ b. serial_is_in s (cond b (x ∷ rest) [])) fits
             ∙ ap (λ e. e || serial_is_in s rest) f
             ∙ q
-            ∙ ap (λ b. serial_is_in s xs && b) (fits_behind (w x) (weight_before_serial w s xs + w s) most (leb-true (w x) most fits))
-            ∙ sym (ap (λ e. (e || serial_is_in s xs) && leb (weight_before_serial w s (x ∷ xs) + w s) most) f
+            ∙ ap (λ b. serial_is_in s xs && b) (fits_behind (w x) (weight_of_more_recent_serials w s xs + w s) most (leb-true (w x) most fits))
+            ∙ sym (ap (λ e. (e || serial_is_in s xs) && leb (weight_of_more_recent_serials w s (x ∷ xs) + w s) most) f
             ∙ ap (λ n. serial_is_in s xs && leb n most) (weight_behind w s x xs f))
             )
         | inr heavy ↦ (
             let over : most < w x = leb-false (w x) most heavy in
-            let more : leb (w x + (weight_before_serial w s xs + w s)) most ≡ false = lt-leb _ _ (omega arith) in
+            let more : leb (w x + (weight_of_more_recent_serials w s xs + w s)) most ≡ false = lt-leb _ _ (omega arith) in
             ap (λ b. serial_is_in s (cond b (x ∷ rest) [])) heavy
-            ∙ sym (ap (λ e. (e || serial_is_in s xs) && leb (weight_before_serial w s (x ∷ xs) + w s) most) f
+            ∙ sym (ap (λ e. (e || serial_is_in s xs) && leb (weight_of_more_recent_serials w s (x ∷ xs) + w s) most) f
             ∙ ap (λ n. serial_is_in s xs && leb n most) (weight_behind w s x xs f)
             ∙ ap (λ b. serial_is_in s xs && b) more
             ∙ and_false (serial_is_in s xs))
@@ -73,7 +73,7 @@ before_step : (e : Bool) (x m n : ℕ) → (e ≡ false → m ≡ n) → cond e 
 before_step true x m n h = refl
 before_step false x m n h = ap (λ k. x + k) (h refl)
 
-pub weight-append : (w : ℕ → ℕ) (s : ℕ) (xs ys : List ℕ) → serial_is_in s xs ≡ true → weight_before_serial w s (xs ++ ys) ≡ weight_before_serial w s xs
+pub weight-append : (w : ℕ → ℕ) (s : ℕ) (xs ys : List ℕ) → serial_is_in s xs ≡ true → weight_of_more_recent_serials w s (xs ++ ys) ≡ weight_of_more_recent_serials w s xs
 weight-append w s [] ys h = absurd (false≢true h)
 weight-append w s (x ∷ xs) ys h =
     before_step (eqb x s) (w x) _ _ (λ e. weight-append w s xs ys (let k : (false || serial_is_in s xs) ≡ true = rw e at h in k))
@@ -85,7 +85,7 @@ front_step t true false a b e h = ap (λ x. x && a) e
 front_step t false l a b e h = ap (λ x. x && a) e
 
 fits_if_any : (w : ℕ → ℕ) (s : ℕ) (bytes : Option ℕ) (xs : List ℕ) →
-    serial_is_in s (prefix_of_weight_if_any w bytes xs) ≡ (serial_is_in s xs && weight_fits_limit bytes (weight_before_serial w s xs + w s))
+    serial_is_in s (prefix_of_weight_if_any w bytes xs) ≡ (serial_is_in s xs && weight_fits_limit bytes (weight_of_more_recent_serials w s xs + w s))
 fits_if_any w s None xs = sym (and_true (serial_is_in s xs))
   where
     and_true : (m : Bool) → (m && true) ≡ m
@@ -100,24 +100,24 @@ is_in-within bounds w s xs =
     let few = take bounds.entries xs in
     fits_if_any w s bounds.bytes few
     ∙ front_step (serial_is_in s few) (serial_is_in s xs) (ltb (count_before_serial s xs) bounds.entries)
-    (weight_fits_limit bounds.bytes (weight_before_serial w s few + w s)) (weight_fits_limit bounds.bytes (weight_before_serial w s xs + w s))
+    (weight_fits_limit bounds.bytes (weight_of_more_recent_serials w s few + w s)) (weight_fits_limit bounds.bytes (weight_of_more_recent_serials w s xs + w s))
     (is_in-take s bounds.entries xs)
     (λ t. ap (λ n. weight_fits_limit bounds.bytes (n + w s))
-    (sym (weight-append w s few (drop bounds.entries xs) t) ∙ ap (weight_before_serial w s) (take-append-drop bounds.entries xs)))
+    (sym (weight-append w s few (drop bounds.entries xs) t) ∙ ap (weight_of_more_recent_serials w s) (take-append-drop bounds.entries xs)))
 
 -- and what it is within a front of a list, it is within the list
 within-append : (bounds : StoreBounds) (w : ℕ → ℕ) (s : ℕ) (xs ys : List ℕ) → serial_is_in s xs ≡ true →
     serial_is_within_bounds bounds w (xs ++ ys) s ≡ serial_is_within_bounds bounds w xs s
 within-append bounds w s xs ys h =
-    ap (λ n. ltb n bounds.entries && weight_fits_limit bounds.bytes (weight_before_serial w s (xs ++ ys) + w s)) (place-append s xs ys h)
+    ap (λ n. ltb n bounds.entries && weight_fits_limit bounds.bytes (weight_of_more_recent_serials w s (xs ++ ys) + w s)) (place-append s xs ys h)
     ∙ ap (λ n. ltb (count_before_serial s xs) bounds.entries && weight_fits_limit bounds.bytes (n + w s)) (weight-append w s xs ys h)
 
-pub weighed_front : (bounds : StoreBounds) (past : List WeighedChange) → (rest : List ℕ) × (weighed_lru_list_of bounds past ++ rest ≡ recent_of (changes_of past))
+pub weighed_front : (bounds : StoreBounds) (past : List WeighedChange) → (rest : List ℕ) × (lru_list_within_bounds bounds past ++ rest ≡ recent_of (changes_of past))
 weighed_front bounds [] = ([], refl)
 weighed_front bounds (i ∷ past) =
     let h = weighed_front bounds past in
-    let a = after-append i.change (weighed_lru_list_of bounds past) h.0 in
-    let xs = recent_after_change i.change (weighed_lru_list_of bounds past) in
+    let a = after-append i.change (lru_list_within_bounds bounds past) h.0 in
+    let xs = recent_after_change i.change (lru_list_within_bounds bounds past) in
     let f = front_of_within bounds i.weights xs in (
       f.0 ++ a.0,
       sym (append_assoc (longest_prefix_within bounds i.weights xs) f.0 a.0)
@@ -126,32 +126,32 @@ weighed_front bounds (i ∷ past) =
           ∙ ap (recent_after_change i.change) h.1,
     )
 
-pub is_in-weighed_bounded : (bounds : StoreBounds) (past : List WeighedChange) (s : ℕ) → serial_is_in s (weighed_lru_list_of bounds past) ≡ is_held_within_bounds bounds past s
+pub is_in-weighed_bounded : (bounds : StoreBounds) (past : List WeighedChange) (s : ℕ) → serial_is_in s (lru_list_within_bounds bounds past) ≡ serial_is_held_within_bounds bounds past s
 is_in-weighed_bounded bounds [] s = refl
 is_in-weighed_bounded bounds (i ∷ past) s =
     let h = weighed_front bounds past in
     let recent = recent_of (changes_of past) in
-    let xs = recent_after_change i.change (weighed_lru_list_of bounds past) in
+    let xs = recent_after_change i.change (lru_list_within_bounds bounds past) in
     let gone = serial_is_in s i.change.removed in
     let touched = stores_or_uses i.change s in
-    let a = after-append i.change (weighed_lru_list_of bounds past) h.0 in
+    let a = after-append i.change (lru_list_within_bounds bounds past) h.0 in
     let e : xs ++ a.0 ≡ recent_after_change i.change recent = a.1 ∙ ap (recent_after_change i.change) h.1 in
-    let m : serial_is_in s xs ≡ ((touched || is_held_within_bounds bounds past s) && not gone) =
-    is_in-after s i.change (weighed_lru_list_of bounds past) ∙ ap (λ b. (touched || b) && not gone) (is_in-weighed_bounded bounds past s)
+    let m : serial_is_in s xs ≡ ((touched || serial_is_held_within_bounds bounds past s) && not gone) =
+    is_in-after s i.change (lru_list_within_bounds bounds past) ∙ ap (λ b. (touched || b) && not gone) (is_in-weighed_bounded bounds past s)
     in
     let now = serial_is_within_bounds bounds i.weights (recent_of (changes_of (i ∷ past))) s in
     is_in-within bounds i.weights s xs
     ∙ ap (λ b. b && serial_is_within_bounds bounds i.weights xs s) m
-    ∙ held_step touched (serial_is_in s recent) (stayed_within_bounds bounds s past) (not gone) (serial_is_within_bounds bounds i.weights xs s) now
+    ∙ held_step touched (serial_is_in s recent) (serial_stayed_within_bounds bounds s past) (not gone) (serial_is_within_bounds bounds i.weights xs s) now
     (λ g. sym (within-append bounds i.weights s xs a.0 (m ∙ g)) ∙ ap (λ zs. serial_is_within_bounds bounds i.weights zs s) e)
-    ∙ ap (λ b. b && (now && (touched || stayed_within_bounds bounds s past))) (sym (is_in-after s i.change recent))
+    ∙ ap (λ b. b && (now && (touched || serial_stayed_within_bounds bounds s past))) (sym (is_in-after s i.change recent))
 
-pub weighed_law : (bounds : StoreBounds) (past : List WeighedChange) → weighed_lru_list_of bounds past ≡ serials_within_bounds bounds past
+pub weighed_law : (bounds : StoreBounds) (past : List WeighedChange) → lru_list_within_bounds bounds past ≡ serials_within_bounds bounds past
 weighed_law bounds past =
     let h = weighed_front bounds past in
     sym (
-    ap (filter (is_held_within_bounds bounds past)) (sym h.1)
-    ∙ filter_front (is_held_within_bounds bounds past) (weighed_lru_list_of bounds past) h.0 (is_in-weighed_bounded bounds past)
+    ap (filter (serial_is_held_within_bounds bounds past)) (sym h.1)
+    ∙ filter_front (serial_is_held_within_bounds bounds past) (lru_list_within_bounds bounds past) h.0 (is_in-weighed_bounded bounds past)
     (subst SerialsAreDistinct (sym h.1) (SerialsAreDistinct-recent (changes_of past)))
     )
 
@@ -171,7 +171,7 @@ within-true bounds w xs s h =
 pub true-within : (bounds : StoreBounds) (w : ℕ → ℕ) (xs : List ℕ) (s : ℕ) → SerialIsWithinBounds bounds w xs s → serial_is_within_bounds bounds w xs s ≡ true
 true-within bounds w xs s h = and_from _ _ (lt-ltb _ _ h.number) (true-fits bounds.bytes _ h.weighs)
 
-weighed_counted : (bounds : StoreBounds) (s : ℕ) (past : List WeighedChange) → serial_is_in s (recent_of (changes_of past)) ≡ true → stayed_within_bounds bounds s past ≡ true →
+weighed_counted : (bounds : StoreBounds) (s : ℕ) (past : List WeighedChange) → serial_is_in s (recent_of (changes_of past)) ≡ true → serial_stayed_within_bounds bounds s past ≡ true →
     (later : List WeighedChange) (item : WeighedChange) (earlier : List WeighedChange) → later ++ item ∷ earlier ≡ past → NoChangeStoresOrUsesSerial (changes_of later) s →
     SerialIsWithinBounds bounds item.weights (recent_of (changes_of (item ∷ earlier))) s
 weighed_counted bounds s [] i k [] item earlier e n = absurd (cc)
@@ -194,7 +194,7 @@ weighed_counted bounds s (x ∷ past) i k (y ∷ later) item earlier e n =
 weighed_keeps : (bounds : StoreBounds) (s : ℕ) (past : List WeighedChange) → serial_is_in s (recent_of (changes_of past)) ≡ true →
     ((later : List WeighedChange) (item : WeighedChange) (earlier : List WeighedChange) → later ++ item ∷ earlier ≡ past → NoChangeStoresOrUsesSerial (changes_of later) s →
     SerialIsWithinBounds bounds item.weights (recent_of (changes_of (item ∷ earlier))) s) →
-    stayed_within_bounds bounds s past ≡ true
+    serial_stayed_within_bounds bounds s past ≡ true
 weighed_keeps bounds s [] i h = refl
 weighed_keeps bounds s (x ∷ past) i h =
     and_from _ _ (true-within bounds x.weights _ s (h [] x past refl tt)) (
@@ -208,7 +208,7 @@ weighed_keeps bounds s (x ∷ past) i h =
     )
 
 -- the test decides the count
-pub Decides-weighed_held : (bounds : StoreBounds) (past : List WeighedChange) (s : ℕ) → Decides (is_held_within_bounds bounds past s) (SerialIsHeldWithinBounds bounds past s)
+pub Decides-weighed_held : (bounds : StoreBounds) (past : List WeighedChange) (s : ℕ) → Decides (serial_is_held_within_bounds bounds past s) (SerialIsHeldWithinBounds bounds past s)
 Decides-weighed_held bounds past s = (
   λ h. let p = and_parts _ _ h in (p.0, weighed_counted bounds s past p.0 p.1),
   λ h. and_from _ _ h.0 (weighed_keeps bounds s past h.0 h.1),
@@ -216,7 +216,7 @@ Decides-weighed_held bounds past s = (
 
 pub is_in-weighed_held : (bounds : StoreBounds) (past : List WeighedChange) (s : ℕ) → Decides (serial_is_in s (serials_within_bounds bounds past)) (SerialIsHeldWithinBounds bounds past s)
 is_in-weighed_held bounds past s =
-    let e : serial_is_in s (serials_within_bounds bounds past) ≡ is_held_within_bounds bounds past s =
+    let e : serial_is_in s (serials_within_bounds bounds past) ≡ serial_is_held_within_bounds bounds past s =
     ap (serial_is_in s) (sym (weighed_law bounds past)) ∙ is_in-weighed_bounded bounds past s in
     let d = Decides-weighed_held bounds past s in
     (λ h. d.0 (sym e ∙ h), λ h. e ∙ d.1 h)
@@ -238,7 +238,7 @@ weighed_held_front bounds past =
     (h.0, ap (λ xs. xs ++ h.0) (sym (weighed_law bounds past)) ∙ h.1)
 
 -- without a bound of bytes all is as by number
-pub bounded_by_number : (most : ℕ) (past : List WeighedChange) → weighed_lru_list_of (record { entries = most; bytes = None }) past ≡ lru_list_of most (changes_of past)
+pub bounded_by_number : (most : ℕ) (past : List WeighedChange) → lru_list_within_bounds (record { entries = most; bytes = None }) past ≡ lru_list_of most (changes_of past)
 bounded_by_number most [] = refl
 bounded_by_number most (i ∷ past) = ap (λ xs. take most (recent_after_change i.change xs)) (bounded_by_number most past)
 
@@ -250,15 +250,15 @@ and_yes : (m : Bool) → (m && true) ≡ m
 and_yes true = refl
 and_yes false = refl
 
-stood_by_number : (most s : ℕ) (past : List WeighedChange) → stayed_within_bounds (record { entries = most; bytes = None }) s past ≡ stayed_within_count most s (changes_of past)
+stood_by_number : (most s : ℕ) (past : List WeighedChange) → serial_stayed_within_bounds (record { entries = most; bytes = None }) s past ≡ serial_stayed_within_count most s (changes_of past)
 stood_by_number most s [] = refl
 stood_by_number most s (i ∷ past) =
-    ap (λ b. b && (stores_or_uses i.change s || stayed_within_bounds (record { entries = most; bytes = None }) s past)) (and_yes (ltb (count_before_serial s (recent_of (changes_of (i ∷ past)))) most))
+    ap (λ b. b && (stores_or_uses i.change s || serial_stayed_within_bounds (record { entries = most; bytes = None }) s past)) (and_yes (ltb (count_before_serial s (recent_of (changes_of (i ∷ past)))) most))
     ∙ ap (λ b. ltb (count_before_serial s (recent_of (changes_of (i ∷ past)))) most && (stores_or_uses i.change s || b)) (stood_by_number most s past)
 
 pub same_words_by_number : (most : ℕ) (past : List WeighedChange) (s : ℕ) → SerialIsHeldWithinBounds (record { entries = most; bytes = None }) past s ↔ Held most (changes_of past) s
 same_words_by_number most past s =
-    let e : is_held_within_bounds (record { entries = most; bytes = None }) past s ≡ is_held most (changes_of past) s =
+    let e : serial_is_held_within_bounds (record { entries = most; bytes = None }) past s ≡ is_held most (changes_of past) s =
     ap (λ b. serial_is_in s (recent_of (changes_of past)) && b) (stood_by_number most s past) in
     let d = Decides-weighed_held (record { entries = most; bytes = None }) past s in
     let o = Decides-held most (changes_of past) s in

@@ -14,9 +14,9 @@ abbrev pub SerialIsAtMostEachOf : ℕ → List ℕ → Type 0
 SerialIsAtMostEachOf s [] = Unit {0}
 SerialIsAtMostEachOf s (x ∷ xs) = (s ≤ x) × SerialIsAtMostEachOf s xs
 
-abbrev pub SerialsAreAscending : List ℕ → Type 0
-SerialsAreAscending [] = Unit {0}
-SerialsAreAscending (x ∷ xs) = SerialIsAtMostEachOf x xs × SerialsAreAscending xs
+abbrev pub SerialsNeverDescend : List ℕ → Type 0
+SerialsNeverDescend [] = Unit {0}
+SerialsNeverDescend (x ∷ xs) = SerialIsAtMostEachOf x xs × SerialsNeverDescend xs
 
 -- a serial is found exactly where an entry has it and the key
 abbrev pub FoundSerialsAreThoseOfTheKey : Type 0
@@ -24,7 +24,7 @@ FoundSerialsAreThoseOfTheKey = (key : Key) (s : ℕ) (es : List Stored) →
     serial_is_in s (serials_of_key key es) ≡ list_any (λ e. same_key e.key key && (e.serial == s)) es
 
 abbrev pub FoundSerialsAscend : Type 0
-FoundSerialsAscend = (key : Key) (es : List Stored) → SerialsAreAscending (serials_of_key key es)
+FoundSerialsAscend = (key : Key) (es : List Stored) → SerialsNeverDescend (serials_of_key key es)
 
 -- and it is found for a request exactly where that entry also nominates what the request has
 abbrev pub FoundSerialsAreThoseThatMatch : Type 0
@@ -35,7 +35,7 @@ FoundSerialsAreThoseThatMatch = (key : Key) (request : List Field) (s : ℕ) (es
 
 abbrev pub MatchingSerialsAscend : Type 0
 MatchingSerialsAscend = (key : Key) (request : List Field) (es : List Stored) → SerialsAreDistinct (serials es)
-    → SerialsAreAscending (matching_serials key request es)
+    → SerialsNeverDescend (matching_serials key request es)
 
 -- Of the entries that pass a test the serials ascend, and a serial is among them exactly where such an entry has it.
 abbrev pub FoundSerialsAreOfEntriesThatPass : Type 0
@@ -44,7 +44,7 @@ FoundSerialsAreOfEntriesThatPass = (passes : Stored → Bool) (s : ℕ) (es : Li
 
 abbrev pub SerialsOfEntriesThatPassAscend : Type 0
 SerialsOfEntriesThatPassAscend = (passes : Stored → Bool) (es : List Stored)
-    → SerialsAreAscending (serials_of_entries_that_pass passes es)
+    → SerialsNeverDescend (serials_of_entries_that_pass passes es)
 
 -- Without them exactly those entries stay that don't pass.
 abbrev pub RemovingFoundEntriesLeavesTheOthers : Type 0

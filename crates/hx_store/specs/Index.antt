@@ -15,15 +15,15 @@ use Rattle.hx_vary.specs.declared.marks.VariantMark.{VariantMark}
 use Rattle.hx_vary.specs.Combined.{values_match_all_nominated}
 use Rattle.hx_store.specs.Serials.{serial_is_in}
 use Rattle.hx_store.specs.Stored.{Stored}
-use Rattle.hx_store.specs.Shelf.{find_entry, serials_of_key}
+use Rattle.hx_store.specs.Shelf.{find_entry_of_serial, serials_of_key}
 
 -- the serials that the index has at a key, beside their marks
 abbrev pub serials_and_marks_at : KeyIndex → Key → List (ℕ × VariantMark)
 serials_and_marks_at index key = unwrap_or (get same_key index.serials key) []
 
 -- the serials alone
-abbrev pub serials_in_index : KeyIndex → Key → List ℕ
-serials_in_index index key = keys_of (serials_and_marks_at index key)
+abbrev pub serials_at_key_in_index : KeyIndex → Key → List ℕ
+serials_at_key_in_index index key = keys_of (serials_and_marks_at index key)
 
 -- the serials whose marks a request with these tags may match
 abbrev pub serials_that_may_match : (ℕ → Bool) → List (ℕ × VariantMark) → List ℕ
@@ -35,9 +35,9 @@ entry_matches_values values None = false
 entry_matches_values values (Some e) = values_match_all_nominated values e.nominated
 
 -- serials but the first that is this one
-abbrev pub without_first_serial : ℕ → List ℕ → List ℕ
-without_first_serial s [] = []
-without_first_serial s (x ∷ xs) = if x == s then xs else x ∷ without_first_serial s xs
+abbrev pub serials_without_first_match : ℕ → List ℕ → List ℕ
+serials_without_first_match s [] = []
+serials_without_first_match s (x ∷ xs) = if x == s then xs else x ∷ serials_without_first_match s xs
 
 -- at a key, what is there once a serial was put in at another with its mark, once it was marked anew there, and once it
 -- was taken out there
@@ -77,12 +77,13 @@ IndexHasNoEmptyKeyExcept key index =
 
 -- the index has the serials of these entries at each key
 abbrev pub IsKeyIndexOf : List Stored → KeyIndex → Type 0
-IsKeyIndexOf es index = (q : Key) → serials_in_index index q ≡ serials_of_key q es
+IsKeyIndexOf es index = (q : Key) → serials_at_key_in_index index q ≡ serials_of_key q es
 
 -- each mark is that of the entry that its serial finds, by the seed, if it finds one
 abbrev pub EachMarkIsOfItsEntry : ℕ → List Stored → List (ℕ × VariantMark) → Type 0
 EachMarkIsOfItsEntry seed es [] = Unit {0}
-EachMarkIsOfItsEntry seed es (p ∷ ps) = IfSome (find_entry p.0 es) (λ e. p.1 ≡ mark_of_values seed e.nominated)
+EachMarkIsOfItsEntry seed es (p ∷ ps) = IfSome (find_entry_of_serial p.0 es)
+    (λ e. p.1 ≡ mark_of_values seed e.nominated)
     × EachMarkIsOfItsEntry seed es ps
 
 abbrev pub MarksAreOfTheirEntries : ℕ → List Stored → KeyIndex → Type 0

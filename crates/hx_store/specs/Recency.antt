@@ -3,7 +3,7 @@
 -- StoreChange: what one step did to the store      recent_of: stored or used, not removed, the latest first
 -- Held: of these, those that were never crowded out        held_serials_of: them, in that order
 -- lru_list_of: what a list does that holds no more than so many
--- SerialIsStoredAndNotRemoved, IsStoredOrUsedLaterThan: recent_of in words
+-- SerialIsStoredOrUsedAndNotRemovedSince, IsStoredOrUsedLaterThan: recent_of in words
 use Rattle.std.specs.Prelude.{◌≡◌, ℕ, suc, ◌<◌, Bool, true, false, not, cond, ◌&&◌, ◌||◌, ◌==◌, nat_lt, Option, None}
 use Rattle.std.specs.Prelude.{Some, List, [], ◌∷◌, ◌++◌, take}
 use Rattle.std.specs.List.{filter}
@@ -58,13 +58,13 @@ Held C past s =
     → count_before_serial s (recent_of earlier) < C)
 
 -- the same count as a test
-abbrev pub stayed_within_count : ℕ → ℕ → List StoreChange → Bool
-stayed_within_count C s [] = true
-stayed_within_count C s (i ∷ past) = nat_lt (count_before_serial s (recent_of (i ∷ past))) C
-    && (stores_or_uses i s || stayed_within_count C s past)
+abbrev pub serial_stayed_within_count : ℕ → ℕ → List StoreChange → Bool
+serial_stayed_within_count C s [] = true
+serial_stayed_within_count C s (i ∷ past) = nat_lt (count_before_serial s (recent_of (i ∷ past))) C
+    && (stores_or_uses i s || serial_stayed_within_count C s past)
 
 abbrev pub is_held : ℕ → List StoreChange → ℕ → Bool
-is_held C past s = serial_is_in s (recent_of past) && stayed_within_count C s past
+is_held C past s = serial_is_in s (recent_of past) && serial_stayed_within_count C s past
 
 -- the held serials, in the order of the recent ones
 abbrev pub held_serials_of : ℕ → List StoreChange → List ℕ
@@ -80,8 +80,8 @@ NoChangeRemovesSerial [] s = Unit {0}
 NoChangeRemovesSerial (i ∷ items) s = (serial_is_in s i.removed ≡ false) × NoChangeRemovesSerial items s
 
 -- some item stores or uses it, and neither that item nor a later one removes it
-abbrev pub SerialIsStoredAndNotRemoved : List StoreChange → ℕ → Type 0
-SerialIsStoredAndNotRemoved past s =
+abbrev pub SerialIsStoredOrUsedAndNotRemovedSince : List StoreChange → ℕ → Type 0
+SerialIsStoredOrUsedAndNotRemovedSince past s =
     (later : List StoreChange) × (item : StoreChange) × (earlier : List StoreChange) × (later ++ item ∷ earlier ≡ past)
     × (stores_or_uses item s ≡ true) × (serial_is_in s item.removed ≡ false) × NoChangeRemovesSerial later s
 

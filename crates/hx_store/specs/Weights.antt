@@ -4,7 +4,7 @@
 -- StoreBounds: the most entries, and the most bytes where they are bounded        IsWithinBounds: a list keeps to both
 -- IsLongestPrefixWithin: the longest prefix of a list that does      longest_prefix_within, cut_to_bounds: computed
 -- WeightsAreThoseOfEntries: what each serial weighs is what its entry does
--- entry_evicted_by_weight, entries_after_weight_eviction: the last one goes where a list weighs too much
+-- entry_evicted_by_weight, entries_after_one_weight_eviction: the last one goes where a list weighs too much
 -- weight_capped_to_64_bits: what a sum counts
 use Rattle.std.specs.Prelude.{◌≡◌, ℕ, ◌+◌, ◌-◌, ◌^◌, ◌≤◌, min, nat_le, nat_lt, Option, None, Some, List, [], ◌∷◌, ◌++◌}
 use Rattle.std.specs.Prelude.{length, take, slice_get, if◌then◌else◌, IfSome}
@@ -15,11 +15,11 @@ use Rattle.hx_vary.specs.declared.nominated_values.NominatedValue.{NominatedValu
 use Rattle.hx_store.specs.Stored.{Stored}
 
 -- a line as it is sent: its name, a colon and a blank, its value, CR and LF (RFC 9112, section 5)
-abbrev pub weight_of_line : Field → ℕ
-weight_of_line line = length line.name + length line.value + 4
+abbrev pub weight_of_field_line : Field → ℕ
+weight_of_field_line line = length line.name + length line.value + 4
 
 abbrev pub weight_of_lines : List Field → ℕ
-weight_of_lines lines = sum_by weight_of_line lines
+weight_of_lines lines = sum_by weight_of_field_line lines
 
 -- host, path and query; the port is a number
 abbrev pub weight_of_key : Key → ℕ
@@ -96,8 +96,8 @@ WeightsAreThoseOfEntries weights (e ∷ es) = (weights e.serial ≡ weight_of_en
 abbrev pub entry_evicted_by_weight : ℕ → List Stored → Option Stored
 entry_evicted_by_weight most es = if nat_lt most (total_weight es) then slice_get es (length es - 1) else None
 
-abbrev pub entries_after_weight_eviction : ℕ → List Stored → List Stored
-entries_after_weight_eviction most es = if nat_lt most (total_weight es) then take (length es - 1) es else es
+abbrev pub entries_after_one_weight_eviction : ℕ → List Stored → List Stored
+entries_after_one_weight_eviction most es = if nat_lt most (total_weight es) then take (length es - 1) es else es
 
 -- what a sum counts of an entry: its weight, of which no more fits a number of 64 bits
 abbrev pub weight_capped_to_64_bits : Stored → ℕ

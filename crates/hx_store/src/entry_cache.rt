@@ -7,9 +7,9 @@ ghost use Rattle.std.specs.Prelude.{IfErr, OnErr, OnOk, Some};
 ghost use Rattle.std.specs.List.{filter, list_all};
 ghost use Rattle.std.specs.Map.{keys_of};
 ghost use Rattle.hx_store.specs.Index.{entry_matches_values, EachMarkIsOfItsEntry};
-ghost use Rattle.hx_store.specs.Shelf.{holds_serial, find_entry, entry_matches_request, without_serials};
+ghost use Rattle.hx_store.specs.Shelf.{holds_serial, find_entry_of_serial, entry_vary_matches_request, without_serials};
 ghost use Rattle.hx_store.specs.Shelf.{entries_with_promoted};
-ghost use Rattle.hx_store.specs.Shelf.{serials, serials_of_entries_that_pass, entries_with_expired};
+ghost use Rattle.hx_store.specs.Shelf.{serials, serials_of_entries_that_pass, entries_with_serials_expired};
 
 use crate::entries::Entry;
 use crate::key_marks::KeyMarks;
@@ -74,7 +74,7 @@ impl EntryCache {
 
     /// The entry of this serial, which is not used by this.
     pub(crate) fn peek(&self, serial: u64) -> Option<&Entry>
-        ensures { option_copied result ≡ find_entry serial self.now }
+        ensures { option_copied result ≡ find_entry_of_serial serial self.now }
     {
         self.entries.peek(&serial)
     }
@@ -88,7 +88,8 @@ impl EntryCache {
         request: &Fields,
     ) -> Result<Serials, AllocError>
         ensures { IfOk result
-            (λ found. found ≡ filter (λ s. entry_matches_request request.now (find_entry s self.now)) serials) }
+            (λ found. found
+            ≡ filter (λ s. entry_vary_matches_request request.now (find_entry_of_serial s self.now)) serials) }
     {
         if self.all_match(alloc, serials.as_slice(), request)? {
             return Ok(serials);
@@ -104,7 +105,8 @@ impl EntryCache {
         request: &Fields,
     ) -> Result<bool, AllocError>
         ensures { IfOk result
-            (λ all. all ≡ list_all (λ s. entry_matches_request request.now (find_entry s self.now)) serials.now) }
+            (λ all. all ≡ list_all
+            (λ s. entry_vary_matches_request request.now (find_entry_of_serial s self.now)) serials.now) }
     {
         for serial in serials {
             if !self.is_match(alloc, *serial, request)? {
@@ -121,7 +123,7 @@ impl EntryCache {
         request: &Fields,
     ) -> Result<Serials, AllocError>
         ensures { IfOk result (λ found. found
-            ≡ filter (λ s. entry_matches_request request.now (find_entry s self.now)) serials.now) }
+            ≡ filter (λ s. entry_vary_matches_request request.now (find_entry_of_serial s self.now)) serials.now) }
     {
         let mut found = Serials::new(alloc);
         for serial in serials {
@@ -134,7 +136,8 @@ impl EntryCache {
 
     /// Whether the entry of this serial is here and nominates what the request has. Fails only where memory runs out.
     fn is_match(&self, alloc: Global, serial: u64, request: &Fields) -> Result<bool, AllocError>
-        ensures { IfOk result (λ is. is ≡ entry_matches_request request.now (find_entry serial self.now)) }
+        ensures { IfOk result
+            (λ is. is ≡ entry_vary_matches_request request.now (find_entry_of_serial serial self.now)) }
     {
         match self.peek(serial) {
             Some(entry) => matches(alloc, &entry.nominated, request),
@@ -144,7 +147,7 @@ impl EntryCache {
 
     /// Those of the serials of one key whose entries nominate what the request has. Where there are
     /// several, an entry is looked at only where its mark may match. Fails only where memory runs out.
-    pub(crate) fn matching_among_marks(
+    pub(crate) fn matching_serials_among_marks(
         &self,
         alloc: Global,
         marks: &KeyMarks,
@@ -153,7 +156,8 @@ impl EntryCache {
     ) -> Result<Serials, AllocError>
         requires { EachMarkIsOfItsEntry seed self.now marks.now }
         ensures { IfOk result (λ found. found
-            ≡ filter (λ s. entry_matches_request request.now (find_entry s self.now)) (keys_of marks.now)) }
+            ≡ filter (λ s. entry_vary_matches_request request.now (find_entry_of_serial s self.now))
+            (keys_of marks.now)) }
     {
         if !marks.has_several_serials() {
             let found = marks.list(alloc)?;
@@ -172,7 +176,7 @@ impl EntryCache {
         asked: &RequestValues,
     ) -> Result<Serials, AllocError>
         ensures { IfOk result (λ found. found
-            ≡ filter (λ s. entry_matches_values asked.now.values (find_entry s self.now)) serials.now) }
+            ≡ filter (λ s. entry_matches_values asked.now.values (find_entry_of_serial s self.now)) serials.now) }
     {
         let mut found = Serials::new(alloc);
         for serial in serials {
@@ -185,7 +189,8 @@ impl EntryCache {
 
     /// Whether the entry of this serial is here and nominates what these values have. Fails only where memory runs out.
     fn entry_matches_values(&self, serial: u64, asked: &RequestValues) -> Result<bool, AllocError>
-        ensures { IfOk result (λ is. is ≡ entry_matches_values asked.now.values (find_entry serial self.now)) }
+        ensures { IfOk result
+            (λ is. is ≡ entry_matches_values asked.now.values (find_entry_of_serial serial self.now)) }
     {
         match self.peek(serial) {
             Some(entry) => asked.matches(&entry.nominated),
@@ -195,7 +200,7 @@ impl EntryCache {
 
     /// The serials of the entries that pass a test, ascending. It goes over the entries once, and sorts what it found.
     /// Fails only where memory runs out.
-    pub(crate) fn find_where<T: EntryTest>(
+    pub(crate) fn find_serials_where<T: EntryTest>(
         &self,
         alloc: Global,
         test: &T,
@@ -240,7 +245,7 @@ impl EntryCache {
     /// Puts a new form of a held entry in its place, first, and hands the old one back. No memory is taken.
     pub(crate) fn replace(&mut self, entry: Entry) -> Entry
         requires { holds_serial entry.serial self.old ≡ true }
-        ensures value { find_entry entry.serial self.old ≡ Some result }
+        ensures value { find_entry_of_serial entry.serial self.old ≡ Some result }
         ensures entries { self.new ≡ entry ∷ without_serials (entry.serial ∷ []) self.old }
     {
         match self.entries.get_mut(&entry.serial) {
@@ -259,7 +264,7 @@ impl EntryCache {
 
     /// Expires the entry of this serial at a moment, if it is here. It stays where it is. No memory is taken.
     pub(crate) fn expire(&mut self, serial: u64, now: u64)
-        ensures { self.new ≡ entries_with_expired (serial ∷ []) now self.old }
+        ensures { self.new ≡ entries_with_serials_expired (serial ∷ []) now self.old }
     {
         if let Some(entry) = self.entries.peek_mut(&serial) {
             entry.expire(now);
@@ -268,7 +273,7 @@ impl EntryCache {
 
     /// Takes the entry of this serial out. No memory is taken.
     pub(crate) fn remove(&mut self, serial: u64) -> Option<Entry>
-        ensures value { result ≡ find_entry serial self.old }
+        ensures value { result ≡ find_entry_of_serial serial self.old }
         ensures entries { self.new ≡ without_serials (serial ∷ []) self.old }
     {
         self.entries.pop(&serial)

@@ -7,12 +7,12 @@ ghost use Rattle.std.specs.Prelude.{slice_get, option_copied, IfOk, IfErr, OnErr
 ghost use Rattle.std.specs.Option.{ForSome};
 ghost use Rattle.hx_target.specs.Keys.{same_key};
 ghost use Rattle.hx_store.specs.Serials.{SerialsAreDistinct};
-ghost use Rattle.hx_store.specs.Shelf.{holds_serial, find_entry, without_serials, serials, serials_of_key};
-ghost use Rattle.hx_store.specs.Shelf.{matching_serials, serials_of_entries_that_pass, entries_with_expired};
+ghost use Rattle.hx_store.specs.Shelf.{holds_serial, find_entry_of_serial, without_serials, serials, serials_of_key};
+ghost use Rattle.hx_store.specs.Shelf.{matching_serials, serials_of_entries_that_pass, entries_with_serials_expired};
 ghost use Rattle.hx_store.specs.Shelf.{entries_with_promoted};
 ghost use Rattle.hx_store.specs.Shelf.{entries_without_key};
 ghost use Rattle.hx_store.specs.Index.{entries_without_serials_but_one};
-ghost use Rattle.hx_store.specs.Weights.{entries_after_weight_eviction, entry_evicted_by_weight, total_weight};
+ghost use Rattle.hx_store.specs.Weights.{entries_after_one_weight_eviction, entry_evicted_by_weight, total_weight};
 
 use crate::entries::Entry;
 use crate::entry_cache::EntryCache;
@@ -102,7 +102,7 @@ impl IndexedEntries {
 
     /// The entry of this serial, which is not used by this.
     pub(crate) fn peek(&self, serial: u64) -> Option<&Entry>
-        ensures { option_copied result ≡ find_entry serial self.now }
+        ensures { option_copied result ≡ find_entry_of_serial serial self.now }
     {
         self.entries.peek(serial)
     }
@@ -132,7 +132,7 @@ impl IndexedEntries {
 
     /// The serials of the entries with this key whose nominated values the request has, ascending. Where there
     /// are several, an entry is looked at only where its mark may match. Fails only where memory runs out.
-    pub(crate) fn find_matching(
+    pub(crate) fn find_matching_serials(
         &self,
         alloc: Global,
         key: &Key,
@@ -144,13 +144,13 @@ impl IndexedEntries {
         match self.index.at(key) {
             Some(marks) => self
                 .entries
-                .matching_among_marks(alloc, marks, request, self.seed),
+                .matching_serials_among_marks(alloc, marks, request, self.seed),
             None => Ok(Serials::new(alloc)),
         }
     }
 
     /// The serials of the entries that pass a test, ascending. Fails only where memory runs out.
-    pub(crate) fn find_where<T: EntryTest>(
+    pub(crate) fn find_serials_where<T: EntryTest>(
         &self,
         alloc: Global,
         test: &T,
@@ -158,7 +158,7 @@ impl IndexedEntries {
         ensures found { IfOk result (λ found. found ≡ serials_of_entries_that_pass (T.takes test.now) self.now) }
         ensures distinct { SerialsAreDistinct (serials self.now) }
     {
-        self.entries.find_where(alloc, test)
+        self.entries.find_serials_where(alloc, test)
     }
 
     /// Puts an entry first. Where memory runs out nothing has changed, and the entry is handed back.
@@ -194,8 +194,9 @@ impl IndexedEntries {
     /// Puts a new form of a held entry in its place, first, and hands the old one back. Nothing is allocated.
     pub(crate) fn replace(&mut self, entry: Entry) -> Entry
         requires held { holds_serial entry.serial self.old ≡ true }
-        requires same_key { ForSome (find_entry entry.serial self.old) (λ old. same_key old.key entry.key ≡ true) }
-        ensures value { find_entry entry.serial self.old ≡ Some result }
+        requires same_key { ForSome (find_entry_of_serial entry.serial self.old)
+            (λ old. same_key old.key entry.key ≡ true) }
+        ensures value { find_entry_of_serial entry.serial self.old ≡ Some result }
         ensures entries { self.new ≡ entry ∷ without_serials (entry.serial ∷ []) self.old }
     {
         let mark = entry.nominated.mark(self.seed);
@@ -217,14 +218,14 @@ impl IndexedEntries {
 
     /// Expires the entry of this serial at a moment, if it is here. It stays where it is. Nothing is allocated.
     fn expire_entry(&mut self, serial: u64, now: u64)
-        ensures { self.new ≡ entries_with_expired (serial ∷ []) now self.old }
+        ensures { self.new ≡ entries_with_serials_expired (serial ∷ []) now self.old }
     {
         self.entries.expire(serial, now);
     }
 
     /// Expires the entries with these serials at a moment, each at the cost of a look-up. Nothing is allocated.
     pub(crate) fn expire(&mut self, serials: &[u64], now: u64)
-        ensures { self.new ≡ entries_with_expired serials.now now self.old }
+        ensures { self.new ≡ entries_with_serials_expired serials.now now self.old }
     {
         for serial in serials {
             self.expire_entry(*serial, now);
@@ -233,7 +234,7 @@ impl IndexedEntries {
 
     /// Takes the entry of this serial out. Nothing is allocated.
     pub(crate) fn remove(&mut self, serial: u64) -> Option<Entry>
-        ensures value { result ≡ find_entry serial self.old }
+        ensures value { result ≡ find_entry_of_serial serial self.old }
         ensures entries { self.new ≡ without_serials (serial ∷ []) self.old }
     {
         match self.entries.remove(serial) {
@@ -275,10 +276,10 @@ impl IndexedEntries {
     }
 
     /// Evicts the last entry where the entries weigh more than `most` bytes together.
-    pub(crate) fn shed(&mut self, most: u64) -> Option<Entry>
+    pub(crate) fn evict_last_beyond_weight(&mut self, most: u64) -> Option<Entry>
         requires { most < 2 ^ 64 - 1 }
         ensures value { result ≡ entry_evicted_by_weight most self.old }
-        ensures entries { self.new ≡ entries_after_weight_eviction most self.old }
+        ensures entries { self.new ≡ entries_after_one_weight_eviction most self.old }
     {
         if self.weight() > most {
             self.pop_last()

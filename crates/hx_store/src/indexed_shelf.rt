@@ -98,17 +98,21 @@ impl Shelf for IndexedShelf {
         self.held.has_key(key)
     }
 
-    fn find_matching(
+    fn find_matching_serials(
         &self,
         alloc: Global,
         key: &Key,
         request: &Fields,
     ) -> Result<Serials, AllocError> {
-        self.held.find_matching(alloc, key, request)
+        self.held.find_matching_serials(alloc, key, request)
     }
 
-    fn find_where<T: EntryTest>(&self, alloc: Global, test: &T) -> Result<Serials, AllocError> {
-        self.held.find_where(alloc, test)
+    fn find_serials_where<T: EntryTest>(
+        &self,
+        alloc: Global,
+        test: &T,
+    ) -> Result<Serials, AllocError> {
+        self.held.find_serials_where(alloc, test)
     }
 
     fn put(&mut self, entry: Entry, replaced: &[u64]) -> Result<Option<Entry>, Entry> {
@@ -141,7 +145,7 @@ impl Shelf for IndexedShelf {
         self.held.expire(serials, now);
     }
 
-    fn shed(&mut self, most: u64) -> Option<Entry> {
-        self.held.shed(most)
+    fn evict_last_beyond_weight(&mut self, most: u64) -> Option<Entry> {
+        self.held.evict_last_beyond_weight(most)
     }
 }

@@ -9,7 +9,7 @@ ghost use Rattle.hx_target.specs.declared.keys.Key.{Key as StoreKey};
 ghost use Rattle.std.specs.HashMap.{get, hasher_of};
 ghost use Rattle.hx_target.specs.Keys.{same_key};
 ghost use Rattle.std.specs.Ordering.{nat_cmp};
-ghost use Rattle.hx_store.specs.Index.{serials_in_index, serials_and_marks_at, SerialMarkIsReplacedInIndex};
+ghost use Rattle.hx_store.specs.Index.{serials_at_key_in_index, serials_and_marks_at, SerialMarkIsReplacedInIndex};
 ghost use Rattle.hx_store.specs.Index.{SerialIsInsertedInIndex};
 ghost use Rattle.hx_store.specs.Index.{SerialIsInsertedInIndexIf, SerialIsRemovedFromIndex, IsSameKeyIndex};
 ghost use Rattle.hx_store.specs.Index.{IndexHasNoEmptyKey, IndexHasNoEmptyKeyExcept};
@@ -55,7 +55,7 @@ impl KeyIndex {
 
     /// The serials at a key, ascending. Fails only where memory runs out.
     pub(crate) fn find(&self, alloc: Global, key: &Key) -> Result<Serials, AllocError>
-        ensures { IfOk result (λ found. found ≡ serials_in_index self.now key.now) }
+        ensures { IfOk result (λ found. found ≡ serials_at_key_in_index self.now key.now) }
     {
         match self.at(key) {
             Some(marks) => marks.list(alloc),
@@ -65,7 +65,7 @@ impl KeyIndex {
 
     /// The first serial at a key.
     pub(crate) fn first(&self, key: &Key) -> Option<u64>
-        ensures { result ≡ slice_get (serials_in_index self.now key.now) 0 }
+        ensures { result ≡ slice_get (serials_at_key_in_index self.now key.now) 0 }
     {
         match self.at(key) {
             Some(marks) => marks.first(),
@@ -75,7 +75,7 @@ impl KeyIndex {
 
     /// Whether a serial stands at a key.
     pub(crate) fn has(&self, key: &Key) -> bool
-        ensures { result ≡ not (length (serials_in_index self.now key.now) == 0) }
+        ensures { result ≡ not (length (serials_at_key_in_index self.now key.now) == 0) }
     {
         self.first(key).is_some()
     }

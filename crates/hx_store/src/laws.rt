@@ -7,13 +7,16 @@ ghost use Rattle.hx_target.specs.declared.keys.Key.{Key};
 ghost use Rattle.hx_age.specs.Age.{times_once_purged};
 ghost use Rattle.hx_store.specs.Serials.{serial_is_in};
 ghost use Rattle.hx_store.specs.Stored.{Stored};
-ghost use Rattle.hx_store.specs.Recency.{StoreChange, Held, IsStoredOrUsedLaterThan, SerialIsStoredAndNotRemoved};
+ghost use Rattle.hx_store.specs.Recency.{StoreChange, Held, IsStoredOrUsedLaterThan};
+ghost use Rattle.hx_store.specs.Recency.{SerialIsStoredOrUsedAndNotRemovedSince};
 ghost use Rattle.hx_store.specs.Recency.{lru_list_of, held_serials_of};
 ghost use Rattle.hx_store.specs.Recency.{count_before_serial, recent_after_change};
 ghost use Rattle.hx_store.specs.Recency.{recent_of};
-ghost use Rattle.hx_store.specs.Shelf.{find_entry, holds_serial, entries_with_promoted, serials, serials_of_key};
+ghost use Rattle.hx_store.specs.Shelf.{find_entry_of_serial, holds_serial, entries_with_promoted, serials};
+ghost use Rattle.hx_store.specs.Shelf.{serials_of_key};
 ghost use Rattle.hx_store.specs.Shelf.{without_serials};
-ghost use Rattle.hx_store.specs.Shelf.{expired_entry, matching_serials, entries_with_expired, entries_without_key};
+ghost use Rattle.hx_store.specs.Shelf.{expired_entry, matching_serials, entries_with_serials_expired};
+ghost use Rattle.hx_store.specs.Shelf.{entries_without_key};
 ghost use Rattle.hx_store.specs.Weights.{total_weight};
 ghost use Rattle.hx_store.specs.Found.{FoundSerialsAreThoseOfTheKey, FoundSerialsAscend, FoundSerialsAreThoseThatMatch};
 ghost use Rattle.hx_store.specs.Found.{MatchingSerialsAscend, FoundSerialsAreOfEntriesThatPass};
@@ -31,23 +34,24 @@ pub use crate::weight_laws::{
 };
 
 /// A store of two entries, 2 and 1: entry 3 replaces 2, entry 4 turns 1 out, and 3 is used.
-pub fn shelf_calls()
+pub fn worked_shelf_calls()
     ensures replaced { take 2 (third ∷ without_serials (2 ∷ []) (second ∷ first ∷ [])) ≡ third ∷ first ∷ [] }
     ensures nothing_back { slice_get (third ∷ without_serials (2 ∷ []) (second ∷ first ∷ [])) 2 ≡ None }
     ensures stored { take 2 (fourth ∷ without_serials [] (third ∷ first ∷ [])) ≡ fourth ∷ third ∷ [] }
     ensures one_back { slice_get (fourth ∷ without_serials [] (third ∷ first ∷ [])) 2 ≡ Some first }
     ensures promoted { entries_with_promoted 3 (fourth ∷ third ∷ []) ≡ third ∷ fourth ∷ [] }
-    ensures absent { find_entry 9 (third ∷ fourth ∷ []) ≡ None }
+    ensures absent { find_entry_of_serial 9 (third ∷ fourth ∷ []) ≡ None }
     ensures found { serials_of_key (key_of_path (codes "/c")) (fourth ∷ second ∷ third ∷ []) ≡ 3 ∷ 4 ∷ [] }
     ensures invalidated { entries_without_key (key_of_path (codes "/c")) (fourth ∷ second ∷ third ∷ []) ≡ second ∷ [] }
 {}
 
 /// Of the entries 2 and 1 the last is expired at 9, and later both at 12: what was expired stays as it is.
 pub fn worked_expired_entries()
-    ensures one { entries_with_expired (1 ∷ []) 9 (second ∷ first ∷ []) ≡ second ∷ entry_of_a_expired_at 9 ∷ [] }
-    ensures both { entries_with_expired (1 ∷ 2 ∷ []) 12 (second ∷ entry_of_a_expired_at 9 ∷ [])
+    ensures one { entries_with_serials_expired (1 ∷ []) 9 (second ∷ first ∷ []) ≡ second ∷ entry_of_a_expired_at 9
+        ∷ [] }
+    ensures both { entries_with_serials_expired (1 ∷ 2 ∷ []) 12 (second ∷ entry_of_a_expired_at 9 ∷ [])
         ≡ entry_of_b_expired_at 12 ∷ entry_of_a_expired_at 9 ∷ [] }
-    ensures no_other { entries_with_expired (3 ∷ []) 12 (second ∷ first ∷ []) ≡ second ∷ first ∷ [] }
+    ensures no_other { entries_with_serials_expired (3 ∷ []) 12 (second ∷ first ∷ []) ≡ second ∷ first ∷ [] }
 {}
 
 /// Expiring changes no entry but those with the serials, and of those nothing but their times. All stay where they are,
@@ -60,16 +64,17 @@ pub fn expiring_changes_only_times()
     ensures nothing_else { (ended : List ℕ) (now : ℕ) (e : Stored)
         → record (expired_entry ended now e) { times = e.times } ≡ e }
     ensures serials { (ended : List ℕ) (now : ℕ) (entries : List Stored)
-        → serials (entries_with_expired ended now entries) ≡ serials entries }
+        → serials (entries_with_serials_expired ended now entries) ≡ serials entries }
     ensures weight { (ended : List ℕ) (now : ℕ) (entries : List Stored)
-        → total_weight (entries_with_expired ended now entries) ≡ total_weight entries }
+        → total_weight (entries_with_serials_expired ended now entries) ≡ total_weight entries }
     ensures found { (ended : List ℕ) (now serial : ℕ) (entries : List Stored)
-        → find_entry serial (entries_with_expired ended now entries)
-        ≡ option_map (expired_entry ended now) (find_entry serial entries) }
+        → find_entry_of_serial serial (entries_with_serials_expired ended now entries)
+        ≡ option_map (expired_entry ended now) (find_entry_of_serial serial entries) }
     ensures of_key { (ended : List ℕ) (now : ℕ) (key : Key) (entries : List Stored)
-        → serials_of_key key (entries_with_expired ended now entries) ≡ serials_of_key key entries }
+        → serials_of_key key (entries_with_serials_expired ended now entries) ≡ serials_of_key key entries }
     ensures matching { (ended : List ℕ) (now : ℕ) (key : Key) (request : List Field) (entries : List Stored)
-        → matching_serials key request (entries_with_expired ended now entries) ≡ matching_serials key request entries }
+        → matching_serials key request (entries_with_serials_expired ended now entries)
+        ≡ matching_serials key request entries }
 {}
 
 /// The serials are those of all entries, in their order. A serial is held exactly where an entry is found by it, and
@@ -77,8 +82,9 @@ pub fn expiring_changes_only_times()
 pub fn held_serials_are_found()
     ensures serials { (entries : List Stored) → serials entries ≡ map (λ e. e.serial) entries }
     ensures held { (serial : ℕ) (entries : List Stored) → holds_serial serial entries ≡ is_some
-        (find_entry serial entries) }
-    ensures found { (serial : ℕ) (entries : List Stored) → IfSome (find_entry serial entries) (λ e. e.serial ≡ serial) }
+        (find_entry_of_serial serial entries) }
+    ensures found { (serial : ℕ) (entries : List Stored)
+        → IfSome (find_entry_of_serial serial entries) (λ e. e.serial ≡ serial) }
 {}
 
 /// What is found of a key is the serial of each entry with that key and no other, ascending.
@@ -116,7 +122,7 @@ pub fn count_before_is_the_position_of_a_serial()
 /// out doesn't come back when a removal leaves room.
 pub fn lru_list_equals_held_serials()
     ensures listed { (past : List StoreChange) (serial : ℕ) → Decides (serial_is_in serial (recent_of past))
-        (SerialIsStoredAndNotRemoved past serial) }
+        (SerialIsStoredOrUsedAndNotRemovedSince past serial) }
     ensures ordered { (past : List StoreChange) (a b : ℕ) → serial_is_in a (recent_of past) ≡ true
         → IsStoredOrUsedLaterThan past a b
         → count_before_serial a (recent_of past) < count_before_serial b (recent_of past) }

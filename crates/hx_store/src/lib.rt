@@ -26,4 +26,4 @@ pub use list_shelf::ListShelf;
 pub use serial_list::Serials;
 pub use shedding::evict_to_weight;
 pub use shelves::{EntryTest, Shelf};
-pub use weights::weight_of_parts;
+pub use weights::weight_of_entry_parts;

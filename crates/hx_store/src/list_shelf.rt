@@ -5,7 +5,8 @@ ghost use Rattle.std.specs.Prelude.{MatchOption, IsOk, OnOk, OnErr, IfOk, IfErr,
 ghost use Rattle.std.specs.List.{list_any};
 ghost use Rattle.hx_target.specs.Keys.{same_key};
 ghost use Rattle.hx_store.specs.SerialPlaces.{SerialIsInNoEntry, IsIndexOfSerial};
-ghost use Rattle.hx_store.specs.Shelf.{holds_serial, entries_with_expired, without_serials, entries_without_key};
+ghost use Rattle.hx_store.specs.Shelf.{holds_serial, entries_with_serials_expired, without_serials};
+ghost use Rattle.hx_store.specs.Shelf.{entries_without_key};
 
 use crate::entries::Entry;
 use crate::serial_list::Serials;
@@ -113,7 +114,7 @@ fn evict_last(entries: &mut Vec<Entry>, capacity: usize) -> Option<Entry>
 
 /// Those with these serials are expired where they stand.
 fn expire_each_among(entries: &mut Vec<Entry>, serials: &[u64], now: u64)
-    ensures items { entries.new.items ≡ entries_with_expired serials.now now entries.old.items }
+    ensures items { entries.new.items ≡ entries_with_serials_expired serials.now now entries.old.items }
     ensures room { vec_capacity entries.new ≡ vec_capacity entries.old }
 {
     for entry in entries.iter_mut() {
@@ -168,7 +169,7 @@ impl Shelf for ListShelf {
         has_entry_with_key(self.entries.as_slice(), key)
     }
 
-    fn find_matching(
+    fn find_matching_serials(
         &self,
         alloc: Global,
         key: &Key,
@@ -186,7 +187,11 @@ impl Shelf for ListShelf {
         Ok(found)
     }
 
-    fn find_where<T: EntryTest>(&self, alloc: Global, test: &T) -> Result<Serials, AllocError> {
+    fn find_serials_where<T: EntryTest>(
+        &self,
+        alloc: Global,
+        test: &T,
+    ) -> Result<Serials, AllocError> {
         let mut found = Serials::new(alloc);
         let mut rest = self.entries.len();
         while rest > 0 {
@@ -258,7 +263,7 @@ impl Shelf for ListShelf {
         expire_each_among(&mut self.entries, serials, now);
     }
 
-    fn shed(&mut self, most: u64) -> Option<Entry> {
+    fn evict_last_beyond_weight(&mut self, most: u64) -> Option<Entry> {
         if self.weight() > most {
             let kept = self.entries.len().saturating_sub(1);
             evict_last(&mut self.entries, kept)

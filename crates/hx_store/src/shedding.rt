@@ -13,5 +13,5 @@ pub fn evict_to_weight<S: Shelf>(shelf: &mut S, most: u64)
     ensures limit { S.limit shelf.new ≡ S.limit shelf.old }
     ensures room { S.room shelf.old ≤ S.room shelf.new }
 {
-    while let Some(_) = shelf.shed(most) {}
+    while let Some(_) = shelf.evict_last_beyond_weight(most) {}
 }

@@ -8,11 +8,12 @@ ghost use Rattle.std.specs.Prelude.{Bool, take, slice_get, option_copied, IfOk, 
 ghost use Rattle.std.specs.Option.{ForSome};
 ghost use Rattle.hx_target.specs.Keys.{same_key};
 ghost use Rattle.hx_store.specs.Serials.{SerialsAreDistinct};
-ghost use Rattle.hx_store.specs.Shelf.{holds_serial, find_entry, without_serials, entries_without_key, serials};
+ghost use Rattle.hx_store.specs.Shelf.{holds_serial, find_entry_of_serial, without_serials, entries_without_key};
+ghost use Rattle.hx_store.specs.Shelf.{serials};
 ghost use Rattle.hx_store.specs.Shelf.{serials_of_key};
 ghost use Rattle.hx_store.specs.Shelf.{matching_serials, serials_of_entries_that_pass};
-ghost use Rattle.hx_store.specs.Shelf.{entries_with_expired, entries_with_promoted};
-ghost use Rattle.hx_store.specs.Weights.{entries_after_weight_eviction, entry_evicted_by_weight, total_weight};
+ghost use Rattle.hx_store.specs.Shelf.{entries_with_serials_expired, entries_with_promoted};
+ghost use Rattle.hx_store.specs.Weights.{entries_after_one_weight_eviction, entry_evicted_by_weight, total_weight};
 
 use crate::entries::Entry;
 use crate::serial_list::Serials;
@@ -64,7 +65,7 @@ pub trait Shelf {
 
     /// The entry of this serial, which is not used by this.
     fn peek(&self, serial: u64) -> Option<&Entry>
-        ensures { option_copied result ≡ find_entry serial (entries self.now) };
+        ensures { option_copied result ≡ find_entry_of_serial serial (entries self.now) };
 
     /// The serials of the entries with this key, ascending. Fails only where memory runs out.
     fn find(&self, alloc: Global, key: &Key) -> Result<Serials, AllocError>
@@ -77,7 +78,7 @@ pub trait Shelf {
 
     /// The serials of the entries with this key whose nominated values the request has, ascending. Fails only where
     /// memory runs out.
-    fn find_matching(
+    fn find_matching_serials(
         &self,
         alloc: Global,
         key: &Key,
@@ -88,7 +89,11 @@ pub trait Shelf {
 
     /// The serials of the entries that pass a test, ascending. It looks at each entry once. Fails only where memory
     /// runs out.
-    fn find_where<T: EntryTest>(&self, alloc: Global, test: &T) -> Result<Serials, AllocError>
+    fn find_serials_where<T: EntryTest>(
+        &self,
+        alloc: Global,
+        test: &T,
+    ) -> Result<Serials, AllocError>
         ensures found { IfOk result (λ found. found
             ≡ serials_of_entries_that_pass (T.takes test.now) (entries self.now)) }
         ensures distinct { SerialsAreDistinct (serials (entries self.now)) };
@@ -111,9 +116,9 @@ pub trait Shelf {
     /// Puts a new form of a held entry in its place, first, and hands the old one back. No memory is taken.
     fn freshen(&mut self, entry: Entry) -> Entry
         requires held { holds_serial entry.serial (entries self.old) ≡ true }
-        requires same_key { ForSome (find_entry entry.serial (entries self.old))
+        requires same_key { ForSome (find_entry_of_serial entry.serial (entries self.old))
             (λ old. same_key old.key entry.key ≡ true) }
-        ensures value { find_entry entry.serial (entries self.old) ≡ Some result }
+        ensures value { find_entry_of_serial entry.serial (entries self.old) ≡ Some result }
         ensures entries { entries self.new ≡ entry ∷ without_serials (entry.serial ∷ []) (entries self.old) }
         ensures limit { limit self.new ≡ limit self.old }
         ensures room { room self.old ≤ room self.new };
@@ -127,7 +132,7 @@ pub trait Shelf {
 
     /// Takes the entry of this serial out. No memory is taken.
     fn remove(&mut self, serial: u64) -> Option<Entry>
-        ensures value { result ≡ find_entry serial (entries self.old) }
+        ensures value { result ≡ find_entry_of_serial serial (entries self.old) }
         ensures entries { entries self.new ≡ without_serials (serial ∷ []) (entries self.old) }
         ensures limit { limit self.new ≡ limit self.old }
         ensures room { room self.old ≤ room self.new };
@@ -142,16 +147,16 @@ pub trait Shelf {
     /// Expires the entries with these serials at a moment, in seconds since 1970. None is used by this, and one that is
     /// expired already stays as it is. No memory is taken.
     fn expire(&mut self, serials: &[u64], now: u64)
-        ensures entries { entries self.new ≡ entries_with_expired serials.now now (entries self.old) }
+        ensures entries { entries self.new ≡ entries_with_serials_expired serials.now now (entries self.old) }
         ensures limit { limit self.new ≡ limit self.old }
         ensures room { room self.old ≤ room self.new };
 
     /// Where the entries weigh more than `most` bytes together, takes the last one out and hands it back. No memory is
     /// taken.
-    fn shed(&mut self, most: u64) -> Option<Entry>
+    fn evict_last_beyond_weight(&mut self, most: u64) -> Option<Entry>
         requires { most < 2 ^ 64 - 1 }
         ensures value { result ≡ entry_evicted_by_weight most (entries self.old) }
-        ensures entries { entries self.new ≡ entries_after_weight_eviction most (entries self.old) }
+        ensures entries { entries self.new ≡ entries_after_one_weight_eviction most (entries self.old) }
         ensures limit { limit self.new ≡ limit self.old }
         ensures room { room self.old ≤ room self.new };
 }

@@ -11,7 +11,8 @@ ghost use Rattle.hx_store.specs.Cases.{entry_of_a_in_no_language, second, third,
 ghost use Rattle.hx_store.specs.Cases.{changes_storing_three};
 ghost use Rattle.hx_store.specs.Cases.{stores, uses, removes};
 ghost use Rattle.hx_store.specs.Shelf.{serials, entries_with_promoted};
-ghost use Rattle.hx_store.specs.Recency.{Held, SerialIsStoredAndNotRemoved, IsStoredOrUsedLaterThan, lru_list_of};
+ghost use Rattle.hx_store.specs.Recency.{Held, SerialIsStoredOrUsedAndNotRemovedSince, IsStoredOrUsedLaterThan};
+ghost use Rattle.hx_store.specs.Recency.{lru_list_of};
 ghost use Rattle.hx_store.specs.Recency.{count_before_serial};
 ghost use Rattle.hx_store.specs.Recency.{held_serials_of, recent_after_change, recent_of};
 ghost use Rattle.hx_store.specs.Serials.{serial_is_in};
@@ -19,11 +20,11 @@ ghost use Rattle.hx_store.specs.Stored.{Stored};
 ghost use Rattle.hx_store.specs.Weights.{WeightsAreThoseOfEntries, cut_to_bounds, weight_of_entry};
 ghost use Rattle.hx_store.specs.Weights.{IsLongestPrefixWithin};
 ghost use Rattle.hx_store.specs.Weights.{IsWithinBounds};
-ghost use Rattle.hx_store.specs.Weights.{entries_after_weight_eviction, total_of_capped_weights, length_if_any};
+ghost use Rattle.hx_store.specs.Weights.{entries_after_one_weight_eviction, total_of_capped_weights, length_if_any};
 ghost use Rattle.hx_store.specs.Weights.{entry_evicted_by_weight, total_weight};
 ghost use Rattle.hx_store.specs.Weights.{StoreBounds as Bounds, longest_prefix_within};
 ghost use Rattle.hx_store.specs.WeightedRecency.{WeighedChange as Change, SerialIsHeldWithinBounds, changes_of};
-ghost use Rattle.hx_store.specs.WeightedRecency.{weighed_lru_list_of};
+ghost use Rattle.hx_store.specs.WeightedRecency.{lru_list_within_bounds};
 ghost use Rattle.hx_store.specs.WeightedRecency.{serials_within_bounds};
 
 /// An entry weighs 1,200 bytes at least. Each byte of its content, of its lines' names and values and of what it
@@ -110,11 +111,12 @@ pub fn removal_and_use_keep_the_bounds()
 /// counted of the weights shows what they are together, as far as 64 bits do, and fits 128.
 pub fn repeated_eviction_ends_within_the_bounds()
     ensures last { (most : ℕ) (entries : List Stored) (e : Stored) → entry_evicted_by_weight most entries ≡ Some e
-        → entries_after_weight_eviction most entries ++ e ∷ [] ≡ entries }
+        → entries_after_one_weight_eviction most entries ++ e ∷ [] ≡ entries }
     ensures light { (most : ℕ) (entries : List Stored) → entry_evicted_by_weight most entries ≡ None
         → total_weight entries ≤ most }
     ensures same { (number most : ℕ) (entries : List Stored)
-        → cut_to_bounds (record { entries = number; bytes = Some most }) (entries_after_weight_eviction most entries)
+        → cut_to_bounds (record { entries = number; bytes = Some most })
+        (entries_after_one_weight_eviction most entries)
         ≡ cut_to_bounds (record { entries = number; bytes = Some most }) entries }
     ensures end { (number most : ℕ) (entries : List Stored) → length entries ≤ number
         → entry_evicted_by_weight most entries ≡ None
@@ -129,9 +131,9 @@ pub fn repeated_eviction_ends_within_the_bounds()
 /// Three entries of 1,206 bytes each, the third first: 3,618 bytes.
 pub fn worked_evictions_by_weight()
     ensures light { entry_evicted_by_weight 3618 (third ∷ second ∷ first ∷ []) ≡ None }
-    ensures stays { entries_after_weight_eviction 3618 (third ∷ second ∷ first ∷ []) ≡ third ∷ second ∷ first ∷ [] }
+    ensures stays { entries_after_one_weight_eviction 3618 (third ∷ second ∷ first ∷ []) ≡ third ∷ second ∷ first ∷ [] }
     ensures heavy { entry_evicted_by_weight 3617 (third ∷ second ∷ first ∷ []) ≡ Some first }
-    ensures less { entries_after_weight_eviction 3617 (third ∷ second ∷ first ∷ []) ≡ third ∷ second ∷ [] }
+    ensures less { entries_after_one_weight_eviction 3617 (third ∷ second ∷ first ∷ []) ≡ third ∷ second ∷ [] }
     ensures none { entry_evicted_by_weight 0 [] ≡ None }
     ensures counted { total_of_capped_weights (third ∷ second ∷ first ∷ []) ≡ 3618 }
 {}
@@ -153,11 +155,11 @@ pub fn serials_are_cut_with_their_entries()
 /// bounds.
 pub fn weighed_lru_list_equals_held_serials()
     ensures listed { (past : List Change) (serial : ℕ) → Decides (serial_is_in serial (recent_of (changes_of past)))
-        (SerialIsStoredAndNotRemoved (changes_of past) serial) }
+        (SerialIsStoredOrUsedAndNotRemovedSince (changes_of past) serial) }
     ensures ordered { (past : List Change) (a b : ℕ) → serial_is_in a (recent_of (changes_of past)) ≡ true
         → IsStoredOrUsedLaterThan (changes_of past) a b
         → count_before_serial a (recent_of (changes_of past)) < count_before_serial b (recent_of (changes_of past)) }
-    ensures same { (bounds : Bounds) (past : List Change) → weighed_lru_list_of bounds past
+    ensures same { (bounds : Bounds) (past : List Change) → lru_list_within_bounds bounds past
         ≡ serials_within_bounds bounds past }
     ensures counted { (bounds : Bounds) (past : List Change) (serial : ℕ)
         → Decides (serial_is_in serial (serials_within_bounds bounds past))
@@ -175,7 +177,7 @@ pub fn weighed_lru_list_equals_held_serials()
 /// Without a bound of bytes what is held is what is held by number alone.
 pub fn without_byte_bound_the_entry_count_decides()
     ensures list { (most : ℕ) (past : List Change)
-        → weighed_lru_list_of (record { entries = most; bytes = None }) past ≡ lru_list_of most (changes_of past) }
+        → lru_list_within_bounds (record { entries = most; bytes = None }) past ≡ lru_list_of most (changes_of past) }
     ensures serials { (most : ℕ) (past : List Change)
         → serials_within_bounds (record { entries = most; bytes = None }) past
         ≡ held_serials_of most (changes_of past) }

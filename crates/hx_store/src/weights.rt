@@ -3,7 +3,7 @@
 //! The law is in `specs/Weights.antt`. Nothing here asks the system what memory it gave.
 
 ghost use Rattle.std.specs.Prelude.{◌≡◌, ◌+◌, ◌-◌, ◌^◌, min, option_copied};
-ghost use Rattle.hx_store.specs.Weights.{weight_of_entry, weight_of_key, weight_of_line, weight_of_lines};
+ghost use Rattle.hx_store.specs.Weights.{weight_of_entry, weight_of_key, weight_of_field_line, weight_of_lines};
 ghost use Rattle.hx_store.specs.Weights.{length_if_any};
 ghost use Rattle.hx_store.specs.Weights.{total_weight, weight_of_nominated, weight_of_nominated_value};
 ghost use Rattle.hx_store.specs.Weights.{overhead_bytes_of_an_entry};
@@ -24,7 +24,7 @@ impl Entry {
     pub fn weight(&self) -> u64
         ensures { result ≡ min (weight_of_entry self.now) (2 ^ 64 - 1) }
     {
-        weight_of_parts(
+        weight_of_entry_parts(
             &self.key,
             self.nominated.as_slice(),
             self.fields.as_slice(),
@@ -35,7 +35,7 @@ impl Entry {
 
 /// The bytes that an entry of this key weighs in the store, with these nominated values, lines and so many bytes of
 /// content; 2^64 - 1 where they are more. No memory is taken.
-pub fn weight_of_parts(
+pub fn weight_of_entry_parts(
     key: &Key,
     nominated: &[NominatedValue],
     lines: &[Field],
@@ -53,8 +53,8 @@ pub fn weight_of_parts(
         .saturating_add(BYTES_OF_AN_ENTRY)
 }
 
-fn weight_of_line(line: &Field) -> u64
-    ensures { result ≡ min (weight_of_line line.now) (2 ^ 64 - 1) }
+fn weight_of_field_line(line: &Field) -> u64
+    ensures { result ≡ min (weight_of_field_line line.now) (2 ^ 64 - 1) }
 {
     (line.name().len() as u64)
         .saturating_add(line.value().len() as u64)
@@ -66,7 +66,7 @@ fn weight_of_lines(lines: &[Field]) -> u64
 {
     let mut weight: u64 = 0;
     for line in lines {
-        weight = weight.saturating_add(weight_of_line(line));
+        weight = weight.saturating_add(weight_of_field_line(line));
     }
     weight
 }

@@ -10,7 +10,7 @@ use Rattle.hx_target.proofs.TablePaths.{and_parts}
 use Rattle.std.specs.Char.{to_ascii_lowercase, is_ascii_digit, digit_value}
 use Rattle.std.specs.Str.Parse.{digits_value, digits_value_after}
 use Rattle.http_uri.specs.ByteClasses.{index_of, index_after_last, rsplit_once_back}
-use Rattle.hx_target.specs.Hosts.{lowercase, is_name_byte, is_address_byte, is_name, is_address, is_host, host_part, text_behind_host, is_port_part, has_valid_host, number_of_few_digits, port_if_valid, port_of_text, port_of_host_value}
+use Rattle.hx_target.specs.Hosts.{lowercase, is_name_byte, is_address_byte, is_name, is_bracketed_address, is_host, host_part, host_value_text_behind_host, is_empty_or_begins_with_colon, begins_with_valid_host, number_of_few_digits, port_if_valid, port_of_text, port_of_host_value}
 
 -- bytes that are no letters, and the classes of bytes
 low_bracket : (b : ℕ) → (to_ascii_lowercase b == 91) ≡ (b == 91)
@@ -85,7 +85,7 @@ low_host_part value =
     ∙ (ap (λ b. cond t (lowercase (take (index_of 93 value + 1) value)) b) (take-map to_ascii_lowercase (index_of 58 value) value)
     ∙ sym (low_cond t (take (index_of 93 value + 1) value) (take (index_of 58 value) value))))))
 
-low_after_host : (value : List ℕ) → text_behind_host (lowercase value) ≡ lowercase (text_behind_host value)
+low_after_host : (value : List ℕ) → host_value_text_behind_host (lowercase value) ≡ lowercase (host_value_text_behind_host value)
 low_after_host value =
     ap (λ h. drop (length h) (lowercase value)) (low_host_part value)
     ∙ (ap (λ n. drop n (lowercase value)) (length-map (host_part value) to_ascii_lowercase)
@@ -96,7 +96,7 @@ low_is_name text =
     ap (λ n. nat_le 1 n && nat_le n 253 && list_all is_name_byte (lowercase text)) (length-map text to_ascii_lowercase)
     ∙ ap (λ t. nat_le 1 (length text) && nat_le (length text) 253 && t) (low_all is_name_byte low_name_byte text)
 
-low_is_address : (text : List ℕ) → is_address (lowercase text) ≡ is_address text
+low_is_address : (text : List ℕ) → is_bracketed_address (lowercase text) ≡ is_bracketed_address text
 low_is_address text =
     let n = length text in
     let low = lowercase text in
@@ -109,21 +109,21 @@ low_is_address text =
 low_is_host : (text : List ℕ) → is_host (lowercase text) ≡ is_host text
 unfolding is_host
 low_is_host text =
-    ap (λ t. cond t (is_address (lowercase text)) (is_name (lowercase text))) (low_starts 91 low_bracket text 0)
+    ap (λ t. cond t (is_bracketed_address (lowercase text)) (is_name (lowercase text))) (low_starts 91 low_bracket text 0)
     ∙ (ap (λ t. cond (slice_index text 0 == 91) t (is_name (lowercase text))) (low_is_address text)
-    ∙ ap (λ t. cond (slice_index text 0 == 91) (is_address text) t) (low_is_name text))
+    ∙ ap (λ t. cond (slice_index text 0 == 91) (is_bracketed_address text) t) (low_is_name text))
 
-low_is_port_part : (text : List ℕ) → is_port_part (lowercase text) ≡ is_port_part text
+low_is_port_part : (text : List ℕ) → is_empty_or_begins_with_colon (lowercase text) ≡ is_empty_or_begins_with_colon text
 low_is_port_part text =
     ap (λ n. (n == 0) || (slice_index (lowercase text) 0 == 58)) (length-map text to_ascii_lowercase)
     ∙ ap (λ t. (length text == 0) || t) (low_starts 58 low_colon text 0)
 
-pub low_valid : (value : List ℕ) → has_valid_host (lowercase value) ≡ has_valid_host value
+pub low_valid : (value : List ℕ) → begins_with_valid_host (lowercase value) ≡ begins_with_valid_host value
 low_valid value =
-    ap (λ h. is_host h && is_port_part (text_behind_host (lowercase value))) (low_host_part value)
-    ∙ (ap (λ r. is_host (lowercase (host_part value)) && is_port_part r) (low_after_host value)
-    ∙ (ap (λ t. t && is_port_part (lowercase (text_behind_host value))) (low_is_host (host_part value))
-    ∙ ap (λ t. is_host (host_part value) && t) (low_is_port_part (text_behind_host value))))
+    ap (λ h. is_host h && is_empty_or_begins_with_colon (host_value_text_behind_host (lowercase value))) (low_host_part value)
+    ∙ (ap (λ r. is_host (lowercase (host_part value)) && is_empty_or_begins_with_colon r) (low_after_host value)
+    ∙ (ap (λ t. t && is_empty_or_begins_with_colon (lowercase (host_value_text_behind_host value))) (low_is_host (host_part value))
+    ∙ ap (λ t. is_host (host_part value) && t) (low_is_port_part (host_value_text_behind_host value))))
 
 low_digits : (n : ℕ) (text : List ℕ) → list_all is_ascii_digit text ≡ true → digits_value_after 10 n (lowercase text) ≡ digits_value_after 10 n text
 low_digits n [] h = refl
@@ -153,7 +153,7 @@ low_port_of text =
 pub low_port_part : (value : List ℕ) → port_of_host_value (lowercase value) ≡ port_of_host_value value
 low_port_part value =
     ap (λ r. port_of_text (drop 1 r)) (low_after_host value)
-    ∙ (ap port_of_text (drop-map to_ascii_lowercase 1 (text_behind_host value)) ∙ low_port_of (drop 1 (text_behind_host value)))
+    ∙ (ap port_of_text (drop-map to_ascii_lowercase 1 (host_value_text_behind_host value)) ∙ low_port_of (drop 1 (host_value_text_behind_host value)))
 
 low_low : (text : List ℕ) → lowercase (lowercase text) ≡ lowercase text
 low_low [] = refl

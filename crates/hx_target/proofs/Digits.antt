@@ -7,7 +7,7 @@ use Rattle.std.proofs.lemmas.Str.{digit_value_digit}
 use Rattle.std.specs.Char.{is_ascii_digit, digit_value}
 use Rattle.std.specs.List.{list_all}
 use Rattle.std.specs.Str.Parse.{AllDigits, digits_value}
-use Rattle.hx_fields.specs.SpelledNumbers.{number_at_most}
+use Rattle.hx_fields.specs.SpelledNumbers.{number_if_at_most}
 use Rattle.hx_target.proofs.TablePaths.{and_parts}
 
 all_digits : (ds : List ℕ) → list_all is_ascii_digit ds ≡ true → AllDigits 10 ds
@@ -18,7 +18,7 @@ all_digits (c ∷ cs) h =
     let value = digit_value_digit c (leb-true 48 c bounds.0, leb-true c 57 bounds.1) in
     (let high = leb-true c 57 bounds.1 in omega (arith, value, high), all_digits cs both.1)
 
-pub few_digits : (ds : List ℕ) → length ds ≤ 5 → list_all is_ascii_digit ds ≡ true → number_at_most 99999 (digits_value 10 ds) ≡ Some (digits_value 10 ds)
+pub few_digits : (ds : List ℕ) → length ds ≤ 5 → list_all is_ascii_digit ds ≡ true → number_if_at_most 99999 (digits_value 10 ds) ≡ Some (digits_value 10 ds)
 few_digits ds few digits =
     let small = digits_value-lt 10 ds (all_digits ds digits) in
     let most : 10 ^ length ds ≤ 10 ^ 5 = pow-le-pow_right {n = 10} (omega arith) few in

@@ -8,7 +8,7 @@ use Rattle.http_uri.specs.ByteClasses.{rsplit_once_back}
 use Rattle.hx_target.specs.declared.target_fault.TargetFault.{TargetFault}
 use Rattle.hx_target.specs.declared.target_fault.TargetFault.TheVariants.{Form, Scheme, Host, Port, Userinfo, Escape, DotSegment, TooLong}
 use Rattle.hx_target.specs.declared.targets.Target.{Target}
-use Rattle.hx_target.specs.Hosts.{lowercase, host_part, has_valid_host, port_of_host_value}
+use Rattle.hx_target.specs.Hosts.{lowercase, host_part, begins_with_valid_host, port_of_host_value}
 use Rattle.hx_target.specs.Paths.{has_bad_escape, has_dot_segment, table_path_of}
 use Rattle.hx_target.specs.Judgement.{TargetParts, judged_of, fault_or_target, first_target_fault, target_of_parts, has_origin_or_absolute_form, has_scheme_other_than_http, has_userinfo, valid_host_value, port_of_host_line, authority_or_host, host_and_port_text, path_query_of}
 use Rattle.hx_target.proofs.Cases.{low_valid, low_port_part, low_named_host, low_after_userinfo, low_any_at_sign, same_but_for_case}
@@ -30,7 +30,7 @@ of_tests target kept form scheme none valid userinfo line_port port host =
     (cond (nat_lt 8192 (length target)) (Some TooLong) None))))))))
 
 judged_by_tests : (q : TargetParts) →
-    judged_of q ≡ of_tests q.target q.kept (has_origin_or_absolute_form q) (has_scheme_other_than_http q.scheme) (is_none (valid_host_value q.hosts)) (has_valid_host (host_and_port_text q)) (has_userinfo q.authority)
+    judged_of q ≡ of_tests q.target q.kept (has_origin_or_absolute_form q) (has_scheme_other_than_http q.scheme) (is_none (valid_host_value q.hosts)) (begins_with_valid_host (host_and_port_text q)) (has_userinfo q.authority)
     (port_of_host_line q.hosts) (port_of_host_value (host_and_port_text q)) (lowercase (host_part (host_and_port_text q)))
 unfolding judged_of of_tests
 judged_by_tests q = answer_is q (first_target_fault q)
@@ -44,14 +44,14 @@ pub scheme_case : (q : TargetParts) (a b : List ℕ) → lowercase a ≡ lowerca
 scheme_case q a b e =
     let tests : has_scheme_other_than_http (Some a) ≡ has_scheme_other_than_http (Some b) = ap (λ low. not (bytes_eq low (codes "http"))) e in
     judged_by_tests (record q { scheme = Some a })
-    ∙ (ap (λ t. of_tests q.target q.kept (has_origin_or_absolute_form (record q { scheme = Some a })) t (is_none (valid_host_value q.hosts)) (has_valid_host (host_and_port_text q)) (has_userinfo q.authority)
+    ∙ (ap (λ t. of_tests q.target q.kept (has_origin_or_absolute_form (record q { scheme = Some a })) t (is_none (valid_host_value q.hosts)) (begins_with_valid_host (host_and_port_text q)) (has_userinfo q.authority)
     (port_of_host_line q.hosts) (port_of_host_value (host_and_port_text q)) (lowercase (host_part (host_and_port_text q)))) tests
     ∙ sym (judged_by_tests (record q { scheme = Some b })))
 
 pub authority_case : (q : TargetParts) (a b : List ℕ) → lowercase a ≡ lowercase b → judged_of (record q { authority = Some a }) ≡ judged_of (record q { authority = Some b })
 authority_case q a b e =
-    let valid : has_valid_host (rsplit_once_back 64 a) ≡ has_valid_host (rsplit_once_back 64 b) =
-    same_but_for_case (λ t. has_valid_host (rsplit_once_back 64 t)) (λ t. ap has_valid_host (low_after_userinfo t) ∙ low_valid (rsplit_once_back 64 t)) a b e in
+    let valid : begins_with_valid_host (rsplit_once_back 64 a) ≡ begins_with_valid_host (rsplit_once_back 64 b) =
+    same_but_for_case (λ t. begins_with_valid_host (rsplit_once_back 64 t)) (λ t. ap begins_with_valid_host (low_after_userinfo t) ∙ low_valid (rsplit_once_back 64 t)) a b e in
     let port : port_of_host_value (rsplit_once_back 64 a) ≡ port_of_host_value (rsplit_once_back 64 b) =
     same_but_for_case (λ t. port_of_host_value (rsplit_once_back 64 t)) (λ t. ap port_of_host_value (low_after_userinfo t) ∙ low_port_part (rsplit_once_back 64 t)) a b e in
     let host : lowercase (host_part (rsplit_once_back 64 a)) ≡ lowercase (host_part (rsplit_once_back 64 b)) =
@@ -92,12 +92,12 @@ port_same a b same t u e = port_of_line a t ∙ (ap (λ v. cond v (port_of_host_
 
 pub host_line_case : (q : TargetParts) (a b : List ℕ) → lowercase a ≡ lowercase b → judged_of (record q { hosts = a ∷ [] }) ≡ judged_of (record q { hosts = b ∷ [] })
 host_line_case q a b e =
-    let valid = same_but_for_case has_valid_host low_valid a b e in
+    let valid = same_but_for_case begins_with_valid_host low_valid a b e in
     let port = same_but_for_case port_of_host_value low_port_part a b e in
     let host = same_but_for_case (λ t. lowercase (host_part t)) low_named_host a b e in
-    let va = has_valid_host a in
-    let vb = has_valid_host b in
+    let va = begins_with_valid_host a in
+    let vb = begins_with_valid_host b in
     judged_by_tests (record q { hosts = a ∷ [] })
-    ∙ (of_tests_same q.target q.kept (has_origin_or_absolute_form q) (has_scheme_other_than_http q.scheme) (none_same a b va vb valid) (named_same has_valid_host a b valid q.authority va vb valid) refl
+    ∙ (of_tests_same q.target q.kept (has_origin_or_absolute_form q) (has_scheme_other_than_http q.scheme) (none_same a b va vb valid) (named_same begins_with_valid_host a b valid q.authority va vb valid) refl
     (port_same a b port va vb valid) (named_same port_of_host_value a b port q.authority va vb valid) (named_same (λ t. lowercase (host_part t)) a b host q.authority va vb valid)
     ∙ sym (judged_by_tests (record q { hosts = b ∷ [] })))

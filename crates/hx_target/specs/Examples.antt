@@ -19,5 +19,5 @@ target_in_absolute_form scheme authority kept host =
     }
 
 -- a target of a slash and this text, with this path
-abbrev pub target_of_text : List ℕ → List ℕ → TargetParts
-target_of_text text path = record (target_in_origin_form path (codes "h")) { target = 47 ∷ text }
+abbrev pub target_of_slash_and_text : List ℕ → List ℕ → TargetParts
+target_of_slash_and_text text path = record (target_in_origin_form path (codes "h")) { target = 47 ∷ text }

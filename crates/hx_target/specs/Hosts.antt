@@ -24,14 +24,14 @@ abbrev pub is_name : List ℕ → Bool
 is_name text = nat_le 1 (length text) && nat_le (length text) 253 && list_all is_name_byte text
 
 -- `[`, 2 to 45 bytes of an address, and `]`
-abbrev pub is_address : List ℕ → Bool
-is_address text =
+abbrev pub is_bracketed_address : List ℕ → Bool
+is_bracketed_address text =
     nat_le 4 (length text) && nat_le (length text) 47 && (slice_index text (length text - 1) == right_bracket)
     && list_all is_address_byte (drop 1 (take (length text - 1) text))
 
 -- a host: an address where it begins with `[`, else a name
 unfoldable pub is_host : List ℕ → Bool
-is_host text = if slice_index text 0 == left_bracket then is_address text else is_name text
+is_host text = if slice_index text 0 == left_bracket then is_bracketed_address text else is_name text
 
 -- the host of a Host value: up to and with the first `]` where it begins with `[`, else up to the first `:`
 abbrev pub host_part : List ℕ → List ℕ
@@ -39,16 +39,17 @@ host_part value =
     if slice_index value 0 == left_bracket then split_once_through right_bracket value else split_once_front colon value
 
 -- what a Host value has after its host
-abbrev pub text_behind_host : List ℕ → List ℕ
-text_behind_host value = drop (length (host_part value)) value
+abbrev pub host_value_text_behind_host : List ℕ → List ℕ
+host_value_text_behind_host value = drop (length (host_part value)) value
 
 -- nothing, or `:` and a port, valid or not
-abbrev pub is_port_part : List ℕ → Bool
-is_port_part text = (length text == 0) || (slice_index text 0 == colon)
+abbrev pub is_empty_or_begins_with_colon : List ℕ → Bool
+is_empty_or_begins_with_colon text = (length text == 0) || (slice_index text 0 == colon)
 
 -- a Host value of a valid host, then nothing or a `:`
-abbrev pub has_valid_host : List ℕ → Bool
-has_valid_host value = is_host (host_part value) && is_port_part (text_behind_host value)
+abbrev pub begins_with_valid_host : List ℕ → Bool
+begins_with_valid_host value =
+    is_host (host_part value) && is_empty_or_begins_with_colon (host_value_text_behind_host value)
 
 -- the number that one to five digits spell
 unfoldable pub number_of_few_digits : List ℕ → Option ℕ
@@ -66,7 +67,7 @@ port_of_text text = if length text == 0 then Some 80 else option_and_then port_i
 
 -- the port of a Host value
 abbrev pub port_of_host_value : List ℕ → Option ℕ
-port_of_host_value value = port_of_text (drop 1 (text_behind_host value))
+port_of_host_value value = port_of_text (drop 1 (host_value_text_behind_host value))
 
 -- ASCII letters in lower case
 abbrev pub lowercase : List ℕ → List ℕ

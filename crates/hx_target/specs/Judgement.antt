@@ -13,7 +13,7 @@ use Rattle.http_uri.specs.declared.uri.Uri.{Uri}
 use Rattle.http_uri.specs.Uri.{Spells, SpellsNone, uri_scheme, uri_authority, uri_data}
 use Rattle.http_uri.specs.Grammar.{path_of}
 use Rattle.http_uri.specs.ByteClasses.{slash, hash_sign, at_sign, rsplit_once_back}
-use Rattle.hx_target.specs.Hosts.{has_valid_host, host_part, port_of_host_value, lowercase}
+use Rattle.hx_target.specs.Hosts.{begins_with_valid_host, host_part, port_of_host_value, lowercase}
 use Rattle.hx_target.specs.Paths.{has_bad_escape, has_dot_segment, table_path_of}
 use Rattle.hx_target.specs.declared.target_fault.TargetFault.{TargetFault}
 use Rattle.hx_target.specs.declared.target_fault.TargetFault.TheVariants.{Form, Scheme, Host, Port, Userinfo, Escape}
@@ -69,12 +69,12 @@ single_value_of (x ∷ []) = Some x
 single_value_of (x ∷ (y ∷ ys)) = None
 
 -- the value, where its host is valid
-abbrev pub host_if_valid : List ℕ → Option (List ℕ)
-host_if_valid value = if has_valid_host value then Some value else None
+abbrev pub host_value_if_valid : List ℕ → Option (List ℕ)
+host_value_if_valid value = if begins_with_valid_host value then Some value else None
 
 -- the value of the Host line, where exactly one stands and its host is valid (RFC 9112, section 3.2)
 abbrev pub valid_host_value : List (List ℕ) → Option (List ℕ)
-valid_host_value hosts = option_and_then host_if_valid (single_value_of hosts)
+valid_host_value hosts = option_and_then host_value_if_valid (single_value_of hosts)
 
 -- the port of that line
 abbrev pub port_of_host_line : List (List ℕ) → Option ℕ
@@ -106,7 +106,7 @@ path_query_of kept = if slice_index kept 0 == slash then kept else slash ∷ kep
 abbrev pub target_fault_applies : TargetFault → TargetParts → Bool
 target_fault_applies Form q = not (has_origin_or_absolute_form q)
 target_fault_applies Scheme q = has_scheme_other_than_http q.scheme
-target_fault_applies Host q = is_none (valid_host_value q.hosts) || not (has_valid_host (host_and_port_text q))
+target_fault_applies Host q = is_none (valid_host_value q.hosts) || not (begins_with_valid_host (host_and_port_text q))
 target_fault_applies Port q = is_none (port_of_host_line q.hosts) || is_none (port_of_host_value (host_and_port_text q))
 target_fault_applies Userinfo q = has_userinfo q.authority
 target_fault_applies Escape q = has_bad_escape (path_of q.kept)

@@ -8,11 +8,13 @@ ghost use Rattle.std.specs.Option.{option_copied};
 ghost use Rattle.std.specs.List.{list_all};
 ghost use Rattle.std.specs.Str.Parse.{digits_value};
 ghost use Rattle.http_uri.specs.ByteClasses.{index_of, index_after_last};
-ghost use Rattle.hx_target.specs.Hosts.{is_name_byte, is_address_byte, is_name, is_address, is_host, host_part};
-ghost use Rattle.hx_target.specs.Hosts.{text_behind_host, has_valid_host, number_of_few_digits, port_of_text};
+ghost use Rattle.hx_target.specs.Hosts.{is_name_byte, is_address_byte, is_name, is_bracketed_address, is_host};
+ghost use Rattle.hx_target.specs.Hosts.{host_part};
+ghost use Rattle.hx_target.specs.Hosts.{host_value_text_behind_host, begins_with_valid_host, number_of_few_digits};
+ghost use Rattle.hx_target.specs.Hosts.{port_of_text};
 ghost use Rattle.hx_target.specs.Hosts.{port_of_host_value, lowercase};
 
-use hx_fields::{Bytes, number_up_to};
+use hx_fields::{Bytes, digits_value_if_at_most};
 use std::alloc::{AllocError, Global};
 
 fn is_name_byte(b: u8) -> bool
@@ -51,8 +53,8 @@ fn is_name(text: &[u8]) -> bool
     1 <= text.len() && text.len() <= 253 && are_name_bytes(text)
 }
 
-fn is_address(text: &[u8]) -> bool
-    ensures { result ≡ is_address text.now }
+fn is_bracketed_address(text: &[u8]) -> bool
+    ensures { result ≡ is_bracketed_address text.now }
 {
     if text.len() < 4 || text.len() > 47 {
         return false;
@@ -68,7 +70,7 @@ pub fn is_host(text: &[u8]) -> bool
     ensures { result ≡ is_host text.now }
 {
     if text.first() == Some(&b'[') {
-        is_address(text)
+        is_bracketed_address(text)
     } else {
         is_name(text)
     }
@@ -117,15 +119,15 @@ pub fn host_part(value: &[u8]) -> &[u8]
 }
 
 /// What a Host value has after its host.
-fn text_behind_host(value: &[u8]) -> &[u8]
-    ensures { result.now ≡ text_behind_host value.now }
+fn host_value_text_behind_host(value: &[u8]) -> &[u8]
+    ensures { result.now ≡ host_value_text_behind_host value.now }
 {
     &value[host_part(value).len()..]
 }
 
 /// Whether a Host value has a valid host, then nothing or a `:`.
-pub fn has_valid_host(value: &[u8]) -> bool
-    ensures { result ≡ has_valid_host value.now }
+pub fn begins_with_valid_host(value: &[u8]) -> bool
+    ensures { result ≡ begins_with_valid_host value.now }
 {
     let host = host_part(value);
     let rest = &value[host.len()..];
@@ -139,7 +141,7 @@ fn value_of(digits: &[u8]) -> u32
     requires all { list_all is_ascii_digit digits.now ≡ true }
     ensures { result ≡ digits_value 10 digits.now }
 {
-    number_up_to(99_999, 10, digits).unwrap_or(0) as u32
+    digits_value_if_at_most(99_999, 10, digits).unwrap_or(0) as u32
 }
 
 /// The number that one to five digits spell.
@@ -171,7 +173,7 @@ fn port_of_text(text: &[u8]) -> Option<u16>
 pub fn port_of_host_value(value: &[u8]) -> Option<u16>
     ensures { result ≡ port_of_host_value value.now }
 {
-    let rest = text_behind_host(value);
+    let rest = host_value_text_behind_host(value);
     if rest.is_empty() {
         port_of_text(rest)
     } else {

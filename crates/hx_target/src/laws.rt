@@ -8,8 +8,8 @@ ghost use Rattle.hx_target.specs.declared.keys.Key.{Key as StoreKey};
 ghost use Rattle.hx_target.specs.declared.target_fault.TargetFault.TheVariants.{Form, Scheme, Host, Port, Userinfo};
 ghost use Rattle.hx_target.specs.declared.target_fault.TargetFault.TheVariants.{Escape};
 ghost use Rattle.hx_target.specs.declared.target_fault.TargetFault.TheVariants.{DotSegment, TooLong};
-ghost use Rattle.hx_target.specs.Examples.{target_in_origin_form, target_in_absolute_form, target_of_text};
-ghost use Rattle.hx_target.specs.Hosts.{has_valid_host, host_part, is_host, is_name, is_name_byte, lowercase};
+ghost use Rattle.hx_target.specs.Examples.{target_in_origin_form, target_in_absolute_form, target_of_slash_and_text};
+ghost use Rattle.hx_target.specs.Hosts.{begins_with_valid_host, host_part, is_host, is_name, is_name_byte, lowercase};
 ghost use Rattle.hx_target.specs.Hosts.{port_of_text};
 ghost use Rattle.hx_target.specs.Hosts.{port_of_host_value};
 ghost use Rattle.hx_target.specs.Keys.{same_key};
@@ -30,7 +30,7 @@ pub fn no_table_path_has_a_dot_segment()
 
 /// The table path of a target that is read has no escape of an unreserved character, and each escape in it
 /// is in upper case; so it is its own table path.
-pub fn a_table_path_is_normal()
+pub fn a_targets_table_path_is_normal()
     ensures normal { (target : List ℕ) (hosts : List (List ℕ)) (aim : Aim) → TargetIsJudged target hosts (Ok aim)
         → has_only_normal_escapes aim.table_path ≡ true }
     ensures stays { (target : List ℕ) (hosts : List (List ℕ)) (aim : Aim) → TargetIsJudged target hosts (Ok aim)
@@ -126,10 +126,10 @@ pub fn worked_hosts()
 pub fn worked_ports()
     ensures before_port { host_part (codes "h:80") ≡ codes "h" }
     ensures before_port_of_address { host_part (codes "[::1]:80") ≡ codes "[::1]" }
-    ensures without { has_valid_host (codes "h") ≡ true }
-    ensures with_port { has_valid_host (codes "[::1]:x") ≡ true }
-    ensures behind_address { has_valid_host (codes "[::1]80") ≡ false }
-    ensures no_host { has_valid_host (codes ":80") ≡ false }
+    ensures without { begins_with_valid_host (codes "h") ≡ true }
+    ensures with_port { begins_with_valid_host (codes "[::1]:x") ≡ true }
+    ensures behind_address { begins_with_valid_host (codes "[::1]80") ≡ false }
+    ensures no_host { begins_with_valid_host (codes ":80") ≡ false }
     ensures empty { port_of_text [] ≡ Some 80 }
     ensures zero { port_of_text (codes "0") ≡ None }
     ensures one { port_of_text (codes "1") ≡ Some 1 }
@@ -196,9 +196,10 @@ pub fn host_names_and_targets_have_length_limits()
     ensures names { (text : List ℕ) → is_name text ≡ true → length text ≤ 253 }
     ensures each_name { (text : List ℕ) → list_all is_name_byte text ≡ true → 1 ≤ length text → length text ≤ 253
         → is_name text ≡ true }
-    ensures longer { (text : List ℕ) → 8192 < length (47 ∷ text) → judged_of (target_of_text text (codes "/a"))
+    ensures longer { (text : List ℕ) → 8192 < length (47 ∷ text) → judged_of (target_of_slash_and_text text (codes "/a"))
         ≡ Err TooLong }
-    ensures longest { (text : List ℕ) → length (47 ∷ text) ≤ 8192 → judged_of (target_of_text text (codes "/a")) ≡ Ok
+    ensures longest { (text : List ℕ) → length (47 ∷ text) ≤ 8192
+        → judged_of (target_of_slash_and_text text (codes "/a")) ≡ Ok
         (record { key = record { host = codes "h"; port = 80; path_query = codes "/a" }; table_path = codes "/a" }) }
-    ensures dots { (text : List ℕ) → judged_of (target_of_text text (codes "/..")) ≡ Err DotSegment }
+    ensures dots { (text : List ℕ) → judged_of (target_of_slash_and_text text (codes "/..")) ≡ Err DotSegment }
 {}

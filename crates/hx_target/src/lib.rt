@@ -22,7 +22,7 @@ mod targets;
 pub use escapes::{has_bad_escape, table_path};
 pub use hosts::{is_host, number_of_few_digits};
 pub use keys::Key;
-pub use paths::{has_dot_segment, names_a_dot_segment};
+pub use paths::{has_dot_segment, table_path_has_dot_segment};
 pub use target_fault::TargetFault;
 pub use target_reading::read_target;
 pub use targets::Target;

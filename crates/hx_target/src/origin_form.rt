@@ -17,7 +17,7 @@ use crate::hosts::{host_part, index_of, lowercase, port_of_host_value};
 use crate::limits::MOST_TARGET_BYTES;
 use crate::sharing::{has_percent_sign, has_uppercase_letter};
 use crate::target_reading::valid_host_line;
-use crate::{Key, Target, TargetFault, has_bad_escape, names_a_dot_segment};
+use crate::{Key, Target, TargetFault, has_bad_escape, table_path_has_dot_segment};
 use hx_fields::{Bytes, Field, Fields};
 use std::alloc::{AllocError, Global};
 
@@ -38,7 +38,7 @@ fn has_rare_byte(text: &[u8]) -> bool
 }
 
 /// Whether a target is such, and not too long.
-pub(crate) fn is_plain_origin_form(target: &[u8]) -> bool
+pub(crate) fn is_origin_form_within_limit(target: &[u8]) -> bool
     ensures { result ≡ ((slice_index target.now 0 == slash) && nat_le (length target.now) 8192 && not (list_any
         (λ b. nat_lt b 0x21 || nat_lt 0x7e b || (b == 34) || (b == 35) || (b == 60) || (b == 62) || (b == 96))
         target.now)) }
@@ -77,7 +77,7 @@ fn host_of_line(alloc: Global, line: &Field) -> Result<Bytes, AllocError>
     if has_uppercase_letter(host) {
         lowercase(alloc, host)
     } else {
-        line.value_part(alloc, host.len())
+        line.first_bytes_of_value(alloc, host.len())
     }
 }
 
@@ -115,7 +115,7 @@ pub(crate) fn judge_origin_form(
     if has_bad_escape(path) {
         return Err(TargetFault::Escape);
     }
-    if names_a_dot_segment(path) {
+    if table_path_has_dot_segment(path) {
         return Err(TargetFault::DotSegment);
     }
     Ok(Target {

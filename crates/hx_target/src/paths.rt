@@ -89,7 +89,7 @@ fn is_dot_segment_escaped(segment: &[u8]) -> bool
 
 /// Whether the path that the operator's table compares has a segment `.` or `..`, which may stand escaped
 /// here. It takes no memory.
-pub fn names_a_dot_segment(path: &[u8]) -> bool
+pub fn table_path_has_dot_segment(path: &[u8]) -> bool
     ensures { result ≡ has_dot_segment (table_path_of path.now) }
 {
     let mut rest = path;

@@ -27,7 +27,7 @@ pub(crate) fn copy_of(alloc: Global, text: &[u8], whole: &Bytes) -> Result<Bytes
 }
 
 /// The first Host line.
-pub(crate) fn host_line(fields: &Fields) -> Option<&Field>
+pub(crate) fn first_host_line(fields: &Fields) -> Option<&Field>
     ensures { option_map (λ line. line.value) (option_copied result)
         ≡ slice_get (values_of fields.now (codes "Host")) 0 }
 {
@@ -45,7 +45,7 @@ fn copy_of_value(alloc: Global, text: &[u8], line: &Field) -> Result<Bytes, Allo
 {
     let n = text.len();
     if n <= line.value().len() {
-        let part = line.value_part(alloc, n)?;
+        let part = line.first_bytes_of_value(alloc, n)?;
         if part.as_slice() == text {
             return Ok(part);
         }

@@ -10,7 +10,7 @@ ghost use Rattle.http_uri.specs.ByteClasses.{slash, at_sign, rsplit_once_back};
 ghost use Rattle.http_uri.specs.Error.{IsOutOfMemory, UnlessOutOfMemory};
 ghost use Rattle.http_uri.specs.Uri.{Spells, SpellsNone, uri_scheme, uri_authority};
 ghost use Rattle.hx_fields.specs.FieldLines.{values_of};
-ghost use Rattle.hx_target.specs.Hosts.{has_valid_host};
+ghost use Rattle.hx_target.specs.Hosts.{begins_with_valid_host};
 ghost use Rattle.hx_target.specs.Judgement.{is_forbidden_target_byte, is_malformed, is_http_scheme};
 ghost use Rattle.hx_target.specs.Judgement.{has_scheme_other_than_http};
 ghost use Rattle.hx_target.specs.Judgement.{valid_host_value};
@@ -19,11 +19,11 @@ ghost use Rattle.hx_target.specs.Judgement.{has_userinfo, path_query_of, target_
 ghost use Rattle.hx_target.specs.Judgement.{judged_of};
 ghost use Rattle.hx_target.specs.Judgement.{TargetIsJudged};
 
-use crate::hosts::{has_valid_host, host_part, index_after_last, port_of_host_value};
+use crate::hosts::{begins_with_valid_host, host_part, index_after_last, port_of_host_value};
 use crate::limits::MOST_TARGET_BYTES;
-use crate::origin_form::{is_plain_origin_form, judge_origin_form};
-use crate::sharing::{copy_of, host_line, lowercase_host, path_as_table_compares};
-use crate::{Key, Target, TargetFault, has_bad_escape, names_a_dot_segment};
+use crate::origin_form::{is_origin_form_within_limit, judge_origin_form};
+use crate::sharing::{copy_of, first_host_line, lowercase_host, path_as_table_compares};
+use crate::{Key, Target, TargetFault, has_bad_escape, table_path_has_dot_segment};
 use http_uri::{PathAndQuery, Uri, UriError};
 use hx_fields::{Bytes, Field, Fields};
 use std::alloc::{AllocError, Global};
@@ -69,13 +69,13 @@ fn has_scheme_other_than_http(uri: &Uri) -> bool
 pub(crate) fn valid_host_line(fields: &Fields) -> Option<&Field>
     ensures value { option_map (λ line. line.value) (option_copied result)
         ≡ valid_host_value (values_of fields.now (codes "Host")) }
-    ensures valid { IfSome result (λ line. has_valid_host line.now.value ≡ true) }
+    ensures valid { IfSome result (λ line. begins_with_valid_host line.now.value ≡ true) }
 {
     if fields.count(b"Host") != 1 {
         return None;
     }
-    match host_line(fields) {
-        Some(line) if has_valid_host(line.value()) => Some(line),
+    match first_host_line(fields) {
+        Some(line) if begins_with_valid_host(line.value()) => Some(line),
         _ => None,
     }
 }
@@ -99,11 +99,11 @@ fn authority_or_host<'a>(uri: &'a Uri, value: &'a [u8]) -> &'a [u8]
 
 /// Whether what names host and port has a valid host. The value of a Host line was found to have one.
 fn names_valid_host(uri: &Uri, value: &[u8]) -> bool
-    requires { has_valid_host value.now ≡ true }
-    ensures { result ≡ has_valid_host (authority_or_host (uri_authority uri.now) value.now) }
+    requires { begins_with_valid_host value.now ≡ true }
+    ensures { result ≡ begins_with_valid_host (authority_or_host (uri_authority uri.now) value.now) }
 {
     match uri.authority() {
-        Some(authority) => has_valid_host(after_userinfo(authority.as_str().as_bytes())),
+        Some(authority) => begins_with_valid_host(after_userinfo(authority.as_str().as_bytes())),
         None => true,
     }
 }
@@ -184,7 +184,7 @@ fn judge_parts(
     if has_bad_escape(path) {
         return Err(TargetFault::Escape);
     }
-    if names_a_dot_segment(path) {
+    if table_path_has_dot_segment(path) {
         return Err(TargetFault::DotSegment);
     }
     if target.len() > MOST_TARGET_BYTES {
@@ -253,7 +253,7 @@ pub fn read_target(alloc: Global, target: &Bytes, fields: &Fields) -> Result<Tar
     ensures memory_last { result ≡ Err TargetFault.OutOfMemory → is_malformed target.now ≡ false }
 {
     let text = target.as_slice();
-    if is_plain_origin_form(text) {
+    if is_origin_form_within_limit(text) {
         return judge_origin_form(alloc, target, fields);
     }
     if is_malformed(text) {

@@ -5,10 +5,10 @@ use Rattle.hx_fields.specs.Line.{Field}
 use Rattle.hx_fields.specs.FieldLines.{has_field, is_named, value_if_only_one, only_value}
 use Rattle.hx_hop.specs.declared.conditions.Conditions.{Conditions}
 use Rattle.hx_vary.specs.Vary.{is_same_value}
-use Rattle.hx_validate.specs.Answering.{tag_matches_by_strength, conditions_are_unchanged}
+use Rattle.hx_validate.specs.Answering.{tag_matches_by_strength, held_conditions_equal_sent}
 use Rattle.hx_validate.specs.EntityTags.{EntityTagParts, are_strongly_equal, entity_tag_of, are_weakly_equal}
 use Rattle.hx_validate.specs.TagsAndFreshening.{A304WithTheSameTagAnswers}
-use Rattle.hx_validate.specs.Validators.{conditions_of, is_entity_tag, value_if_it_passes_test}
+use Rattle.hx_validate.specs.Validators.{validating_conditions_of, is_entity_tag, value_if_it_passes_test}
 use Rattle.hx_validate.proofs.Lines.{bytes_eq-refl, filter_no_hit}
 
 -- a value is the same as itself
@@ -16,7 +16,7 @@ pub same_value : (value : Option (List ℕ)) → is_same_value value value ≡ t
 same_value None = refl
 same_value (Some v) = bytes_eq-refl v
 
-same_as_sent : (sent : Conditions) → conditions_are_unchanged sent sent ≡ true
+same_as_sent : (sent : Conditions) → held_conditions_equal_sent sent sent ≡ true
 same_as_sent sent = rw (same_value sent.etag, same_value sent.modified) refl
 
 -- what passes stands, and is a tag
@@ -48,4 +48,4 @@ pub a_304_with_the_same_tag_answers : A304WithTheSameTagAnswers
 a_304_with_the_same_tag_answers entry answered value held given =
     let found = passed value (only_value answered.fields (codes "ETag")) given in
     let stands = held_at answered.fields value (has_field answered.fields (codes "ETag")) refl found.0 in
-    rw (same_as_sent (conditions_of entry.fields), stands, held, found.0) (itself (entity_tag_of value) found.1 value refl)
+    rw (same_as_sent (validating_conditions_of entry.fields), stands, held, found.0) (itself (entity_tag_of value) found.1 value refl)

@@ -7,10 +7,10 @@ use Rattle.hx_fields.specs.Line.{Field}
 use Rattle.hx_fields.specs.FieldLines.{has_field, only_value}
 use Rattle.hx_vary.specs.Vary.{is_same_value}
 use Rattle.hx_hop.specs.declared.conditions.Conditions.{Conditions}
-use Rattle.hx_validate.specs.Answering.{validators_match_sent, tag_matches_by_strength, last_modified_matches_sent, conditions_are_unchanged, etag_matches_sent}
+use Rattle.hx_validate.specs.Answering.{validators_match_sent, tag_matches_by_strength, last_modified_matches_sent, held_conditions_equal_sent, etag_matches_sent}
 use Rattle.hx_validate.specs.EntityTags.{EntityTagParts, strong_eq, entity_tag_of, weak_eq}
 use Rattle.hx_validate.specs.Identified.{A304AnswersOnlyTheStoredItIdentifies, A304AnswersTheStoredItIdentifies, FieldsOf304MatchSentLastModified, FieldsOf304MatchSentTag, StoredStillHasTheSentValidators, FieldsOf304IdentifyStored, A304FreshensOnlyAStoredOfItsTag, A304WithSeveralTagsAnswersNothing, TagOf304MatchesSentTag}
-use Rattle.hx_validate.specs.Validators.{conditions_of, etag_validator}
+use Rattle.hx_validate.specs.Validators.{validating_conditions_of, etag_validator}
 use Rattle.hx_validate.proofs.Echoes.{held_at, same_value}
 use Rattle.hx_validate.proofs.Lines.{bytes_eq-refl}
 
@@ -57,7 +57,7 @@ identifies sent fields false false et em h = inr (inr (et, em))
 
 pub answers_nothing_else : A304AnswersOnlyTheStoredItIdentifies
 answers_nothing_else entry sent answered h =
-    let parts = and_parts (conditions_are_unchanged (conditions_of entry.fields) sent) (validators_match_sent sent answered.fields) h in
+    let parts = and_parts (held_conditions_equal_sent (validating_conditions_of entry.fields) sent) (validators_match_sent sent answered.fields) h in
     let values = and_parts _ _ parts.0 in (
       (one_value _ _ values.0, one_value _ _ values.1),
       identifies sent answered.fields (has_field answered.fields (codes "ETag")) (has_field answered.fields (codes "Last-Modified")) refl refl parts.1,

@@ -7,7 +7,7 @@ use Rattle.hx_fields.specs.FieldLines.{only_value}
 use Rattle.hx_fields.specs.Names.{split_at_first_byte, is_nonempty, is_same_name}
 use Rattle.hx_hop.specs.declared.request_view.Asked.{Asked}
 use Rattle.hx_store.specs.Stored.{Stored}
-use Rattle.hx_validate.specs.Ranges.{answer_to_range, answer_to_any_range, range_is_answered, if_range_holds, response_in_form_of, byte_range_of_positions, range_asked, byte_range_of_value, byte_range_of_cut_text, byte_range_of_texts, range_answer, range_answer_of, range_position_of, PartLiesWithinTotal}
+use Rattle.hx_validate.specs.Ranges.{answer_to_range, answer_to_range_if_any, range_is_answered, if_range_holds, response_as_range_answer, byte_range_of_positions, range_asked, byte_range_of_value, byte_range_of_texts_if_split, byte_range_of_texts, range_answer, range_answer_of, range_number_of_digits, PartLiesWithinTotal}
 use Rattle.hx_validate.specs.RangeWords.{FailedIfRangeSendsTheWhole, ByteIsAskedForByRange, RangeIsInOrder, OnlyA200HasParts, PartHasExactlyTheBytesAskedFor, PartIsWithinTheContent, RangeOfAnotherMethodIsIgnored, UnsatisfiableRangeAsksForNoByte, WithoutOneByteRangeTheWholeIsSent}
 use Rattle.hx_validate.specs.declared.ranges.ByteRange.{ByteRange}
 use Rattle.hx_validate.specs.declared.ranges.ByteRange.TheVariants.{FromTo, From, Last}
@@ -47,19 +47,19 @@ from_read None range h = cc
 parts_read : (first last : List ℕ) (range : ByteRange) → byte_range_of_texts first last ≡ Some range → RangeIsInOrder range
 parts_read first last range h = by_first (is_nonempty first) (is_nonempty last) h
   where
-    by_first : (f l : Bool) → cond (not f) (option_map Last (range_position_of last)) (cond (not l) (option_map From (range_position_of first)) (byte_range_of_positions (range_position_of first) (range_position_of last))) ≡ Some range → RangeIsInOrder range
-    by_first false l e = last_read (range_position_of last) range e
-    by_first true false e = from_read (range_position_of first) range e
-    by_first true true e = in_order (range_position_of first) (range_position_of last) range e
+    by_first : (f l : Bool) → cond (not f) (option_map Last (range_number_of_digits last)) (cond (not l) (option_map From (range_number_of_digits first)) (byte_range_of_positions (range_number_of_digits first) (range_number_of_digits last))) ≡ Some range → RangeIsInOrder range
+    by_first false l e = last_read (range_number_of_digits last) range e
+    by_first true false e = from_read (range_number_of_digits first) range e
+    by_first true true e = in_order (range_number_of_digits first) (range_number_of_digits last) range e
 
-cut_read : (cut : Option (List ℕ × List ℕ)) (range : ByteRange) → byte_range_of_cut_text cut ≡ Some range → RangeIsInOrder range
+cut_read : (cut : Option (List ℕ × List ℕ)) (range : ByteRange) → byte_range_of_texts_if_split cut ≡ Some range → RangeIsInOrder range
 cut_read (Some (first, last)) range h = parts_read first last range h
 cut_read None range h = cc
 
 value_read : (value : List ℕ) (range : ByteRange) → byte_range_of_value value ≡ Some range → RangeIsInOrder range
 value_read value range h = by_unit (is_same_name (take 6 value) (codes "bytes=")) h
   where
-    by_unit : (t : Bool) → cond t (byte_range_of_cut_text (split_at_first_byte 45 (drop 6 value))) None ≡ Some range → RangeIsInOrder range
+    by_unit : (t : Bool) → cond t (byte_range_of_texts_if_split (split_at_first_byte 45 (drop 6 value))) None ≡ Some range → RangeIsInOrder range
     by_unit true e = cut_read (split_at_first_byte 45 (drop 6 value)) range e
     by_unit false e = cc
 
@@ -98,7 +98,7 @@ within total (Last most) a b h read = by_test (most == 0) (total == 0) refl refl
 
 -- ---- what answers a request
 
-by_range : (total : ℕ) (asked : Option ByteRange) → ((range : ByteRange) → asked ≡ Some range → RangeIsInOrder range) → PartLiesWithinTotal (answer_to_any_range total asked) total
+by_range : (total : ℕ) (asked : Option ByteRange) → ((range : ByteRange) → asked ≡ Some range → RangeIsInOrder range) → PartLiesWithinTotal (answer_to_range_if_any total asked) total
 by_range total None read = tt
 by_range total (Some range) read = by_answer (answer_to_range total range) refl
   where
@@ -114,7 +114,7 @@ value_if_one (Some value) range h = value_read value range h
 pub answer_is_in : (asked : Asked) (status date : ℕ) (fields : List Field) (total : ℕ) → PartLiesWithinTotal (range_answer_of asked status date fields total) total
 answer_is_in asked status date fields total = by_test (range_is_answered asked status date fields)
   where
-    by_test : (t : Bool) → PartLiesWithinTotal (cond t (answer_to_any_range total (range_asked asked.fields)) Whole) total
+    by_test : (t : Bool) → PartLiesWithinTotal (cond t (answer_to_range_if_any total (range_asked asked.fields)) Whole) total
     by_test true = by_range total (range_asked asked.fields) (λ range is. value_if_one (only_value asked.fields (codes "Range")) range is)
     by_test false = tt
 
@@ -173,8 +173,8 @@ none_is_asked total (Last most) at h there asked = by_test (most == 0) (total ==
 
 -- ---- what is sent whole
 
-unheeded : (asked : Asked) (e : Stored) → range_is_answered asked e.status e.times.date e.fields ≡ false → response_in_form_of (range_answer asked e) e ≡ e
-unheeded asked e off = ap (λ t. response_in_form_of (cond t (answer_to_any_range (length e.content) (range_asked asked.fields)) Whole) e) off
+unheeded : (asked : Asked) (e : Stored) → range_is_answered asked e.status e.times.date e.fields ≡ false → response_as_range_answer (range_answer asked e) e ≡ e
+unheeded asked e off = ap (λ t. response_as_range_answer (cond t (answer_to_range_if_any (length e.content) (range_asked asked.fields)) Whole) e) off
 
 method_is_not : (m : List ℕ) → (m ≡ codes "GET" → ⊥) → bytes_eq m (codes "GET") ≡ false
 method_is_not m other = by_test (bytes_eq m (codes "GET")) refl
@@ -202,10 +202,10 @@ of_another_response asked e off =
 pub of_no_range : WithoutOneByteRangeTheWholeIsSent
 of_no_range asked e none = by_test (range_is_answered asked e.status e.times.date e.fields)
   where
-    by_asked : (o : Option ByteRange) → o ≡ None → response_in_form_of (answer_to_any_range (length e.content) o) e ≡ e
+    by_asked : (o : Option ByteRange) → o ≡ None → response_as_range_answer (answer_to_range_if_any (length e.content) o) e ≡ e
     by_asked None is = refl
     by_asked (Some range) is = cc
 
-    by_test : (t : Bool) → response_in_form_of (cond t (answer_to_any_range (length e.content) (range_asked asked.fields)) Whole) e ≡ e
+    by_test : (t : Bool) → response_as_range_answer (cond t (answer_to_range_if_any (length e.content) (range_asked asked.fields)) Whole) e ≡ e
     by_test true = by_asked (range_asked asked.fields) none
     by_test false = refl

@@ -9,7 +9,7 @@ use Rattle.std.proofs.lemmas.List.{take_all, take-append-drop}
 use Rattle.std.proofs.lemmas.Option.{same_Some}
 use Rattle.std.proofs.lemmas.Slice.Eq.{bytes_eq-Decides}
 use Rattle.hx_validate.specs.EntityTags.{EntityTagParts, both_are_tags_that_compare, without_first_and_last, is_opaque_tag, is_tag_byte, opaque_tag_of, are_strongly_equal, entity_tag_of, tagged, are_weakly_equal}
-use Rattle.hx_validate.specs.TagsAndFreshening.{EqualityIsSymmetric, EachEntityTagIsRead, EntityTagIsOfTheGrammar, StrongEqualityImpliesWeak, entity_tag_text, weak_prefix}
+use Rattle.hx_validate.specs.TagsAndFreshening.{EqualityIsSymmetric, EachEntityTagSpellingIsRead, EntityTagIsOfTheGrammar, StrongEqualityImpliesWeak, entity_tag_text, weak_prefix}
 use Rattle.hx_validate.proofs.Lines.{bytes_eq-sym}
 
 -- an opaque tag
@@ -38,7 +38,7 @@ reads_by : (weak : Bool) (o : List ℕ) → list_all is_tag_byte o ≡ true → 
 reads_by true o h = ap (option_map (tagged true)) (opaque_of-quoted o h)
 reads_by false o h = ap (option_map (tagged false)) (opaque_of-quoted o h)
 
-pub reads_each_tag : EachEntityTagIsRead
+pub reads_each_tag : EachEntityTagSpellingIsRead
 reads_each_tag tag h = reads_by tag.weak tag.opaque h
 
 -- a text of two bytes at least is its first, what stands between, and its last

@@ -1,13 +1,13 @@
 -- Which stored response a 304 answers, and what it makes of it (RFC 9111, sections 4.3.3 and 4.3.4).
 --
--- answers304: the 304 says that the stored response is the one that was asked about
+-- is_validated_by_304: the 304 says that the stored response is the one that was asked about
 -- freshened_of: the stored response with the lines of the 304
 use Rattle.std.specs.Prelude.{ℕ, if◌then◌else◌, Bool, true, false, not, ◌&&◌, ◌||◌, List, [], ◌++◌, filter, bytes_eq}
 use Rattle.std.specs.Prelude.{codes, Option, Some, None}
 use Rattle.hx_fields.specs.Line.{Field}
 use Rattle.hx_fields.specs.FieldLines.{has_field, is_named, only_value}
 use Rattle.hx_age.specs.declared.moments.Times.{Times}
-use Rattle.hx_vary.specs.Vary.{is_same_value, nomination_with}
+use Rattle.hx_vary.specs.Vary.{is_same_value, nomination_with_further_names}
 use Rattle.hx_vary.specs.declared.nominated_values.NominatedValue.{NominatedValue}
 use Rattle.hx_vary.specs.declared.nominations.Nomination.{Nomination}
 use Rattle.hx_vary.specs.declared.nominations.Nomination.TheVariants.{Star, Names}
@@ -16,11 +16,11 @@ use Rattle.hx_hop.specs.declared.request_view.Asked.{Asked}
 use Rattle.hx_hop.specs.declared.response_view.Answered.{Answered}
 use Rattle.hx_hop.specs.declared.conditions.Conditions.{Conditions}
 use Rattle.hx_validate.specs.EntityTags.{EntityTagParts, strong_eq, entity_tag_of, weak_eq}
-use Rattle.hx_validate.specs.Validators.{conditions_of}
+use Rattle.hx_validate.specs.Validators.{validating_conditions_of}
 
 -- what was sent is what the stored response has now
-abbrev pub conditions_are_unchanged : Conditions → Conditions → Bool
-conditions_are_unchanged held sent = is_same_value held.etag sent.etag && is_same_value held.modified sent.modified
+abbrev pub held_conditions_equal_sent : Conditions → Conditions → Bool
+held_conditions_equal_sent held sent = is_same_value held.etag sent.etag && is_same_value held.modified sent.modified
 
 -- a strong entity tag asks for strong equality, a weak one for weak, and what is none equals nothing
 abbrev pub tag_matches_by_strength : Option EntityTagParts → List ℕ → List ℕ → Bool
@@ -50,9 +50,10 @@ validators_match_sent sent fields =
     else true
 
 -- whether a 304 to these conditions answers a stored response
-abbrev pub answers304 : Stored → Conditions → Answered → Bool
-answers304 entry sent answered
-    = conditions_are_unchanged (conditions_of entry.fields) sent && validators_match_sent sent answered.fields
+abbrev pub is_validated_by_304 : Stored → Conditions → Answered → Bool
+is_validated_by_304 entry sent answered
+    = held_conditions_equal_sent (validating_conditions_of entry.fields) sent
+    && validators_match_sent sent answered.fields
 
 -- a line that a 304 can bring: the length is that of the stored content (RFC 9111, section 3.2)
 -- own: nor does it bring an Age, which is counted anew
@@ -82,7 +83,7 @@ freshened_of further entry answered asked times =
     record {
       serial = entry.serial;
       key = entry.key;
-      nominated = nominated_values_unless_star (nomination_with further fields asked.fields);
+      nominated = nominated_values_unless_star (nomination_with_further_names further fields asked.fields);
       status = entry.status;
       fields = fields;
       content = entry.content;

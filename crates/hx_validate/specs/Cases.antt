@@ -5,9 +5,9 @@ use Rattle.hx_fields.specs.Examples.{line}
 use Rattle.hx_hop.specs.declared.response_view.Answered.{Answered}
 use Rattle.hx_hop.specs.declared.request_view.Asked.{Asked}
 use Rattle.hx_store.specs.Stored.{Stored}
-use Rattle.hx_validate.specs.Answering.{answers304}
+use Rattle.hx_validate.specs.Answering.{is_validated_by_304}
 use Rattle.hx_validate.specs.NotModified.{stored_gets_304}
-use Rattle.hx_validate.specs.Validators.{conditions_of}
+use Rattle.hx_validate.specs.Validators.{validating_conditions_of}
 
 abbrev pub etag_line : List ℕ → Field
 etag_line value = line (codes "ETag") value
@@ -45,9 +45,9 @@ asked_get_with fields =
     }
 
 -- whether a 304 of these lines answers a stored response of those, of which both validators were sent
-abbrev pub is_answered_by_304 : List Field → List Field → Bool
-is_answered_by_304 stored given =
-    answers304 (stored_with_fields stored) (conditions_of stored) (answered_304_with given)
+abbrev pub stored_fields_validated_by_304 : List Field → List Field → Bool
+stored_fields_validated_by_304 stored given =
+    is_validated_by_304 (stored_with_fields stored) (validating_conditions_of stored) (answered_304_with given)
 
 -- the stored response of the first example, and a 304 to it at 160
 abbrev pub first_stored_fields : List Field
@@ -59,8 +59,8 @@ first_304_fields =
     line (codes "Date") (codes "Thu, 01 Jan 1970 00:02:40 GMT") ∷ line (codes "Cache-Control") (codes "max-age=60") ∷ etag_line (codes "\"v1\"") ∷ []
 
 -- that response once a purge expired it at 130
-abbrev pub first_stored_purged : Stored
-first_stored_purged = record (stored_with_fields first_stored_fields) {
+abbrev pub first_stored_expired_at_130 : Stored
+first_stored_expired_at_130 = record (stored_with_fields first_stored_fields) {
   times = record (stored_with_fields first_stored_fields).times { expired = Some 130 };
 }
 
@@ -81,8 +81,8 @@ abbrev pub if_modified_since_line : List ℕ → Field
 if_modified_since_line value = line (codes "If-Modified-Since") value
 
 -- whether a client that asks with these lines gets a 304 for a stored response of those
-abbrev pub client_gets_304_with : List Field → List Field → Bool
-client_gets_304_with asked stored = stored_gets_304 (asked_get_with asked) (stored_with_fields stored)
+abbrev pub asked_and_stored_fields_give_304 : List Field → List Field → Bool
+asked_and_stored_fields_give_304 asked stored = stored_gets_304 (asked_get_with asked) (stored_with_fields stored)
 
 -- so many lines of a name and value
 abbrev pub many_lines : ℕ → List Field

@@ -7,7 +7,7 @@ use Rattle.std.specs.Prelude.{◌≡◌, ◌⊎◌, ℕ, ◌≤◌, true, false,
 use Rattle.std.specs.List.{Any}
 use Rattle.hx_fields.specs.Line.{Field}
 use Rattle.hx_fields.specs.FieldLines.{combined_of, has_field, members_of, values_of}
-use Rattle.hx_age.specs.Dates.{single_valid_date}
+use Rattle.hx_age.specs.Dates.{moment_of_single_date}
 use Rattle.hx_store.specs.Stored.{Stored}
 use Rattle.hx_hop.specs.declared.request_view.Asked.{Asked}
 use Rattle.hx_validate.specs.EntityTags.{EntityTagParts}
@@ -27,8 +27,8 @@ IfNoneMatchIsFalse request fields =
 -- in the field value, the condition is false"; it is ignored where either isn't one valid date
 abbrev pub IfModifiedSinceIsFalse : List Field → List Field → Type 0
 IfModifiedSinceIsFalse request fields = (since : ℕ) × (changed : ℕ)
-    × (single_valid_date (values_of request (codes "If-Modified-Since")) ≡ Some since)
-    × (single_valid_date (values_of fields (codes "Last-Modified")) ≡ Some changed) × (changed ≤ since)
+    × (moment_of_single_date (values_of request (codes "If-Modified-Since")) ≡ Some since)
+    × (moment_of_single_date (values_of fields (codes "Last-Modified")) ≡ Some changed) × (changed ≤ since)
 
 -- a condition counts where the response without it is a 200, and If-None-Match in front of If-Modified-Since (RFC 9110,
 -- sections 13.2.1 and 13.2.2)

@@ -9,7 +9,7 @@ use Rattle.hx_fields.specs.FieldLines.{has_field, only_value}
 use Rattle.hx_store.specs.Stored.{Stored}
 use Rattle.hx_hop.specs.declared.response_view.Answered.{Answered}
 use Rattle.hx_hop.specs.declared.conditions.Conditions.{Conditions}
-use Rattle.hx_validate.specs.Answering.{answers304}
+use Rattle.hx_validate.specs.Answering.{is_validated_by_304}
 use Rattle.hx_validate.specs.EntityTags.{EntityTagParts, strong_eq, entity_tag_of, weak_eq}
 use Rattle.hx_validate.specs.Validators.{date_validator, etag_validator}
 
@@ -52,21 +52,21 @@ FieldsOf304IdentifyStored sent fields =
 abbrev pub A304AnswersTheStoredItIdentifies : Type 0
 A304AnswersTheStoredItIdentifies = (entry : Stored) (sent : Conditions) (answered : Answered) →
     StoredStillHasTheSentValidators entry sent → FieldsOf304IdentifyStored sent answered.fields
-    → answers304 entry sent answered ≡ true
+    → is_validated_by_304 entry sent answered ≡ true
 
 abbrev pub A304AnswersOnlyTheStoredItIdentifies : Type 0
 A304AnswersOnlyTheStoredItIdentifies = (entry : Stored) (sent : Conditions) (answered : Answered) →
-    answers304 entry sent answered ≡ true → StoredStillHasTheSentValidators entry sent
+    is_validated_by_304 entry sent answered ≡ true → StoredStillHasTheSentValidators entry sent
     × FieldsOf304IdentifyStored sent answered.fields
 
 -- whatever was sent, a 304 with one ETag line answers only a stored response whose own tag agrees with that
 abbrev pub A304FreshensOnlyAStoredOfItsTag : Type 0
 A304FreshensOnlyAStoredOfItsTag = (entry : Stored) (sent : Conditions) (answered : Answered) (given : List ℕ) →
-    only_value answered.fields (codes "ETag") ≡ Some given → answers304 entry sent answered ≡ true →
+    only_value answered.fields (codes "ETag") ≡ Some given → is_validated_by_304 entry sent answered ≡ true →
     (held : List ℕ) × (etag_validator entry.fields ≡ Some held) × TagOf304MatchesSentTag held given
 
 -- and one with several never answers any
 abbrev pub A304WithSeveralTagsAnswersNothing : Type 0
 A304WithSeveralTagsAnswersNothing = (entry : Stored) (sent : Conditions) (answered : Answered) →
     has_field answered.fields (codes "ETag") ≡ true → only_value answered.fields (codes "ETag") ≡ None
-    → answers304 entry sent answered ≡ true → ⊥
+    → is_validated_by_304 entry sent answered ≡ true → ⊥

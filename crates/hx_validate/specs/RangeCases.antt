@@ -4,12 +4,13 @@ use Rattle.hx_fields.specs.Line.{Field}
 use Rattle.hx_fields.specs.Examples.{line}
 use Rattle.hx_store.specs.Stored.{Stored}
 use Rattle.hx_validate.specs.Cases.{asked_get_with, many_lines, stored_with_fields}
-use Rattle.hx_validate.specs.Ranges.{answer_to_any_range, range_answer, byte_range_of_value, response_as_range_or_whole}
+use Rattle.hx_validate.specs.Ranges.{answer_to_range_if_any, range_answer, byte_range_of_value}
+use Rattle.hx_validate.specs.Ranges.{response_as_range_or_whole}
 use Rattle.hx_validate.specs.declared.ranges.RangeAnswer.{RangeAnswer}
 
 -- what of a content of so many bytes answers a Range
 abbrev pub answer_to_range_text : ℕ → List ℕ → RangeAnswer
-answer_to_range_text total value = answer_to_any_range total (byte_range_of_value value)
+answer_to_range_text total value = answer_to_range_if_any total (byte_range_of_value value)
 
 abbrev pub range_line : List ℕ → Field
 range_line value = line (codes "Range") value
@@ -30,6 +31,6 @@ stored_part_of_ten_bytes text content =
     record stored_of_ten_bytes { status = 206; fields = line (codes "Content-Range") text ∷ []; content = content }
 
 -- the status of a part of what has so many lines
-abbrev pub status_of_part_with_lines : ℕ → ℕ
-status_of_part_with_lines n = (response_as_range_or_whole (asked_get_with (range_line (codes "bytes=1-1")
+abbrev pub range_status_for_line_count : ℕ → ℕ
+range_status_for_line_count n = (response_as_range_or_whole (asked_get_with (range_line (codes "bytes=1-1")
     ∷ [])) (stored_with_fields (many_lines n))).status

@@ -20,7 +20,7 @@ use Rattle.hx_fields.specs.Line.{Field}
 use Rattle.hx_fields.specs.Examples.{line}
 use Rattle.hx_fields.specs.FieldLines.{has_field, is_named, only_value, values_of, without_named}
 use Rattle.hx_fields.specs.Names.{split_at_first_byte, is_nonempty, is_same_name}
-use Rattle.hx_age.specs.Dates.{single_valid_date}
+use Rattle.hx_age.specs.Dates.{moment_of_single_date}
 use Rattle.hx_hop.specs.declared.request_view.Asked.{Asked}
 use Rattle.hx_store.specs.Stored.{Stored}
 use Rattle.hx_validate.specs.EntityTags.{strong_eq}
@@ -39,8 +39,8 @@ abbrev pub counted : ℕ → ℕ
 counted n = min n 18446744073709551615
 
 -- first-pos = 1*DIGIT, last-pos = 1*DIGIT, suffix-length = 1*DIGIT (RFC 9110, section 14.1.1)
-abbrev pub range_position_of : List ℕ → Option ℕ
-range_position_of digits =
+abbrev pub range_number_of_digits : List ℕ → Option ℕ
+range_number_of_digits digits =
     if is_nonempty digits && list_all is_ascii_digit digits then Some (counted (digits_value 10 digits)) else None
 
 -- "An int-range is invalid if the last-pos value is present and less than first-pos" (RFC 9110, section 14.1.1)
@@ -52,13 +52,13 @@ byte_range_of_positions None last = None
 -- int-range = first-pos "-" [ last-pos ], suffix-range = "-" suffix-length (RFC 9110, section 14.1.1)
 abbrev pub byte_range_of_texts : List ℕ → List ℕ → Option ByteRange
 byte_range_of_texts first last =
-    if not (is_nonempty first) then option_map Last (range_position_of last)
-    else if not (is_nonempty last) then option_map From (range_position_of first)
-    else byte_range_of_positions (range_position_of first) (range_position_of last)
+    if not (is_nonempty first) then option_map Last (range_number_of_digits last)
+    else if not (is_nonempty last) then option_map From (range_number_of_digits first)
+    else byte_range_of_positions (range_number_of_digits first) (range_number_of_digits last)
 
-abbrev pub byte_range_of_cut_text : Option (List ℕ × List ℕ) → Option ByteRange
-byte_range_of_cut_text None = None
-byte_range_of_cut_text (Some (first, last)) = byte_range_of_texts first last
+abbrev pub byte_range_of_texts_if_split : Option (List ℕ × List ℕ) → Option ByteRange
+byte_range_of_texts_if_split None = None
+byte_range_of_texts_if_split (Some (first, last)) = byte_range_of_texts first last
 
 -- the one range of bytes that a value asks for: ranges-specifier = range-unit "=" range-set, whose unit is "bytes",
 -- without case (RFC 9110, sections 14.1 and 14.1.2)
@@ -66,7 +66,7 @@ byte_range_of_cut_text (Some (first, last)) = byte_range_of_texts first last
 abbrev pub byte_range_of_value : List ℕ → Option ByteRange
 byte_range_of_value value =
     if is_same_name (take 6 value)
-    (codes "bytes=") then byte_range_of_cut_text (split_at_first_byte 45 (drop 6 value)) else None
+    (codes "bytes=") then byte_range_of_texts_if_split (split_at_first_byte 45 (drop 6 value)) else None
 
 abbrev pub range_asked : List Field → Option ByteRange
 range_asked fields = option_and_then byte_range_of_value (only_value fields (codes "Range"))
@@ -91,7 +91,7 @@ is_dated_a_minute_later date (Some changed) = nat_le 60 (date - changed)
 
 -- of a response of a Date and of lines
 abbrev pub last_modified_is_strong : ℕ → List Field → Bool
-last_modified_is_strong date fields = is_dated_a_minute_later date (single_valid_date (values_of fields (codes "Last-Modified")))
+last_modified_is_strong date fields = is_dated_a_minute_later date (moment_of_single_date (values_of fields (codes "Last-Modified")))
 
 -- If-Range = entity-tag / HTTP-date (RFC 9110, section 13.1.5)
 abbrev pub if_range_names_current_validator : Option (List ℕ) → ℕ → List Field → Bool
@@ -120,9 +120,9 @@ answer_to_range total (From first) = if nat_lt first total then Part first (tota
 answer_to_range total (Last most) =
     if most == 0 then Unsatisfiable else if total == 0 then Whole else Part (total - most) (total - 1)
 
-abbrev pub answer_to_any_range : ℕ → Option ByteRange → RangeAnswer
-answer_to_any_range total None = Whole
-answer_to_any_range total (Some range) = answer_to_range total range
+abbrev pub answer_to_range_if_any : ℕ → Option ByteRange → RangeAnswer
+answer_to_range_if_any total None = Whole
+answer_to_range_if_any total (Some range) = answer_to_range total range
 
 -- a part is of what is there: of so many bytes it has one at least
 abbrev pub PartLiesWithinTotal : RangeAnswer → ℕ → Type 0
@@ -140,7 +140,8 @@ range_is_answered asked status date fields =
 -- of a response of a status, a Date, lines and a content of so many bytes
 abbrev pub range_answer_of : Asked → ℕ → ℕ → List Field → ℕ → RangeAnswer
 range_answer_of asked status date fields total =
-    if range_is_answered asked status date fields then answer_to_any_range total (range_asked asked.fields) else Whole
+    if range_is_answered asked status date fields then answer_to_range_if_any total
+    (range_asked asked.fields) else Whole
 
 abbrev pub range_answer : Asked → Stored → RangeAnswer
 range_answer asked e = range_answer_of asked e.status e.times.date e.fields (length e.content)
@@ -191,11 +192,11 @@ response_416_of e = record e { status = 416; fields = fields_of_416 e.fields (le
 abbrev pub form_if_head_leaves_room : Stored → Stored → Stored
 form_if_head_leaves_room e form = cond (head_leaves_room form.fields) form e
 
-abbrev pub response_in_form_of : RangeAnswer → Stored → Stored
-response_in_form_of Whole e = e
-response_in_form_of (Part first last) e = form_if_head_leaves_room e (response_206_of_part e first last)
-response_in_form_of Unsatisfiable e = form_if_head_leaves_room e (response_416_of e)
+abbrev pub response_as_range_answer : RangeAnswer → Stored → Stored
+response_as_range_answer Whole e = e
+response_as_range_answer (Part first last) e = form_if_head_leaves_room e (response_206_of_part e first last)
+response_as_range_answer Unsatisfiable e = form_if_head_leaves_room e (response_416_of e)
 
 -- the response as it answers a request, for a range or not
 abbrev pub response_as_range_or_whole : Asked → Stored → Stored
-response_as_range_or_whole asked e = response_in_form_of (range_answer asked e) e
+response_as_range_or_whole asked e = response_as_range_answer (range_answer asked e) e

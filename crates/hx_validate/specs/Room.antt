@@ -14,14 +14,14 @@ abbrev pub most_field_lines_added : ℕ
 most_field_lines_added = 4
 
 -- the status line, these four and the empty line are at most 231 bytes, with some to spare
-abbrev pub most_head_bytes_added : ℕ
-most_head_bytes_added = 256
+abbrev pub most_bytes_added_to_sent_head : ℕ
+most_bytes_added_to_sent_head = 256
 
 -- own: a freshened response is kept only where it leaves so much
 abbrev pub head_leaves_room : List Field → Bool
 head_leaves_room fields =
     nat_le (length fields + most_field_lines_added) most_field_lines
-    && nat_le (length (field_lines_text fields) + most_head_bytes_added) most_head_bytes
+    && nat_le (length (field_lines_text fields) + most_bytes_added_to_sent_head) most_head_bytes
 
 -- ---- the statements
 
@@ -29,14 +29,14 @@ head_leaves_room fields =
 -- is within the limits
 abbrev pub LeftRoomHoldsAddedLines : Type 0
 LeftRoomHoldsAddedLines = (fields beside : List Field) (front behind : List ℕ) → head_leaves_room fields ≡ true
-    → length beside ≤ most_field_lines_added → length front + length behind ≤ most_head_bytes_added
+    → length beside ≤ most_field_lines_added → length front + length behind ≤ most_bytes_added_to_sent_head
     → (length (fields ++ beside) ≤ most_field_lines)
     × (length (front ++ field_lines_text fields ++ behind) ≤ most_head_bytes)
 
 -- where so many do stand beside them and the whole is within the limits, room was left
 abbrev pub FittingLinesLeaveRoom : Type 0
 FittingLinesLeaveRoom = (fields beside : List Field) (front behind : List ℕ) → length beside ≡ most_field_lines_added
-    → length front + length behind ≡ most_head_bytes_added → length (fields ++ beside) ≤ most_field_lines
+    → length front + length behind ≡ most_bytes_added_to_sent_head → length (fields ++ beside) ≤ most_field_lines
     → length (front ++ field_lines_text fields ++ behind) ≤ most_head_bytes → head_leaves_room fields ≡ true
 
 -- a line `X: VALUE` before at most 95 others: with 32,507 bytes of its value and these lines there

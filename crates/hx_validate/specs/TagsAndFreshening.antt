@@ -8,10 +8,10 @@ use Rattle.hx_hop.specs.declared.response_view.Answered.{Answered}
 use Rattle.hx_store.specs.Stored.{Stored}
 use Rattle.hx_age.specs.declared.moments.Times.{Times}
 use Rattle.hx_hop.specs.declared.request_view.Asked.{Asked}
-use Rattle.hx_vary.specs.Vary.{vary_is_star, nominated_values_with}
-use Rattle.hx_validate.specs.Answering.{answers304, freshened_fields, freshened_of}
+use Rattle.hx_vary.specs.Vary.{vary_counts_as_star, nominated_values_with_further_names}
+use Rattle.hx_validate.specs.Answering.{is_validated_by_304, freshened_fields, freshened_of}
 use Rattle.hx_validate.specs.EntityTags.{EntityTagParts, is_tag_byte, strong_eq, entity_tag_of, weak_eq}
-use Rattle.hx_validate.specs.Validators.{conditions_of, etag_validator}
+use Rattle.hx_validate.specs.Validators.{validating_conditions_of, etag_validator}
 
 -- entity-tag = [ weak ] opaque-tag; weak = %s"W/"; opaque-tag = DQUOTE *etagc DQUOTE
 abbrev pub weak_prefix : Bool → List ℕ
@@ -27,8 +27,8 @@ EntityTagIsOfTheGrammar = (text : List ℕ) (tag : EntityTagParts) → entity_ta
     → (text ≡ entity_tag_text tag) × (list_all is_tag_byte tag.opaque ≡ true)
 
 -- and every such spelling is read
-abbrev pub EachEntityTagIsRead : Type 0
-EachEntityTagIsRead = (tag : EntityTagParts) → list_all is_tag_byte tag.opaque ≡ true → entity_tag_of
+abbrev pub EachEntityTagSpellingIsRead : Type 0
+EachEntityTagSpellingIsRead = (tag : EntityTagParts) → list_all is_tag_byte tag.opaque ≡ true → entity_tag_of
     (entity_tag_text tag) ≡ Some tag
 
 -- strong equality is the narrower one
@@ -63,7 +63,8 @@ LengthAndAgeAreUnchangedBy304 = (stored fields : List Field) (name : List ℕ) �
 abbrev pub A304WithTheSameTagAnswers : Type 0
 A304WithTheSameTagAnswers = (entry : Stored) (answered : Answered) (value : List ℕ) → etag_validator entry.fields
     ≡ Some value
-    → etag_validator answered.fields ≡ Some value → answers304 entry (conditions_of entry.fields) answered ≡ true
+    → etag_validator answered.fields ≡ Some value
+    → is_validated_by_304 entry (validating_conditions_of entry.fields) answered ≡ true
 
 -- what a 304 leaves: serial, key, status and content are the stored ones, the moments those of the
 -- 304 (RFC 9111, section 4.3.4)
@@ -79,11 +80,12 @@ abbrev pub FreshenedIsNominatedByNewFields : Type 0
 FreshenedIsNominatedByNewFields = (further : List (List ℕ)) (entry : Stored) (answered : Answered) (asked : Asked)
     (times : Times) →
     let now = freshened_of further entry answered asked times in
-    vary_is_star now.fields ≡ false → now.nominated ≡ nominated_values_with further now.fields asked.fields
+    vary_counts_as_star now.fields ≡ false → now.nominated
+    ≡ nominated_values_with_further_names further now.fields asked.fields
 
 -- own: of a request whose answer nominates everything nothing is kept ("What a star nominates is not kept")
 abbrev pub FreshenedWithVaryStarNominatesNothing : Type 0
 FreshenedWithVaryStarNominatesNothing = (further : List (List ℕ)) (entry : Stored) (answered : Answered) (asked : Asked)
     (times : Times) →
     let now = freshened_of further entry answered asked times in
-    vary_is_star now.fields ≡ true → now.nominated ≡ []
+    vary_counts_as_star now.fields ≡ true → now.nominated ≡ []

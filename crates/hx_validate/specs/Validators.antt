@@ -1,7 +1,7 @@
 -- The validators of a response, and what the proxy sends of them (RFC 9110, section 8.8; RFC 9111, section 4.3.1).
 --
 -- etag_validator, date_validator: the value that is a validator
--- has_validator: one stands                    conditions_of: both
+-- has_validator: one stands                    validating_conditions_of: both
 use Rattle.std.specs.Prelude.{ℕ, if◌then◌else◌, Bool, ◌||◌, List, codes, Option, Some, None, is_some}
 use Rattle.httpdate.specs.Date.{parse_secs}
 use Rattle.hx_fields.specs.Line.{Field}
@@ -34,5 +34,5 @@ has_validator fields = is_some (etag_validator fields) || is_some (date_validato
 
 -- the conditions that ask whether a stored response is still the selected representation (RFC 9110,
 -- sections 13.1.2 and 13.1.3)
-abbrev pub conditions_of : List Field → Conditions
-conditions_of fields = record { etag = etag_validator fields; modified = date_validator fields }
+abbrev pub validating_conditions_of : List Field → Conditions
+validating_conditions_of fields = record { etag = etag_validator fields; modified = date_validator fields }

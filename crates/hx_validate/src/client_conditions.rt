@@ -10,14 +10,16 @@ ghost use Rattle.hx_validate.specs.EntityTags.{tagged};
 ghost use Rattle.hx_validate.specs.NotModified.{last_modified_or_date, etag_of_fields, is_field_of_304};
 ghost use Rattle.hx_validate.specs.NotModified.{moment_is_not_before};
 ghost use Rattle.hx_validate.specs.NotModified.{is_weakly_equal_tag, if_none_match_lists};
-ghost use Rattle.hx_validate.specs.NotModified.{if_none_match_matches_fields, fields_of_304, is_unmodified_since};
+ghost use Rattle.hx_validate.specs.NotModified.{if_none_match_matches_fields, fields_of_304};
+ghost use Rattle.hx_validate.specs.NotModified.{is_unmodified_by_if_modified_since};
 ghost use Rattle.hx_validate.specs.NotModified.{stored_gets_304};
-ghost use Rattle.hx_validate.specs.NotModified.{is_not_before_if_stated, states_unmodified_since, answer_gets_304};
-ghost use Rattle.hx_validate.specs.NotModified.{is_field_of_304_to_answer, fields_of_304_to_answer};
+ghost use Rattle.hx_validate.specs.NotModified.{are_known_and_not_before, answer_states_no_change_since};
+ghost use Rattle.hx_validate.specs.NotModified.{answer_gets_304};
+ghost use Rattle.hx_validate.specs.NotModified.{is_field_of_304_to_answer, fields_of_304_from_answer};
 
 use crate::entity_tags::EntityTag;
 use crate::stored_validators::etag_validator;
-use hx_age::single_valid_date;
+use hx_age::moment_of_single_date;
 use hx_fields::{Field, Fields, is_same_name, next_member};
 use hx_hop::Asked;
 use hx_store::Entry;
@@ -94,7 +96,7 @@ fn if_none_match_matches_fields(request: &Fields, fields: &Fields) -> bool
 fn last_modified_or_date(entry: &Entry) -> u64
     ensures { result ≡ last_modified_or_date entry.now }
 {
-    single_valid_date(&entry.fields, b"Last-Modified").unwrap_or(entry.times.date)
+    moment_of_single_date(&entry.fields, b"Last-Modified").unwrap_or(entry.times.date)
 }
 
 fn moment_is_not_before(moment: Option<u64>, changed: u64) -> bool
@@ -107,11 +109,11 @@ fn moment_is_not_before(moment: Option<u64>, changed: u64) -> bool
 }
 
 /// Whether If-Modified-Since finds a stored response unchanged.
-fn is_unmodified_since(request: &Fields, entry: &Entry) -> bool
-    ensures { result ≡ is_unmodified_since request.now entry.now }
+fn is_unmodified_by_if_modified_since(request: &Fields, entry: &Entry) -> bool
+    ensures { result ≡ is_unmodified_by_if_modified_since request.now entry.now }
 {
     moment_is_not_before(
-        single_valid_date(request, b"If-Modified-Since"),
+        moment_of_single_date(request, b"If-Modified-Since"),
         last_modified_or_date(entry),
     )
 }
@@ -125,12 +127,12 @@ pub fn client_wants_304(asked: &Asked, entry: &Entry) -> bool
     } else if asked.fields.has(b"If-None-Match") {
         if_none_match_matches_fields(&asked.fields, &entry.fields)
     } else {
-        is_unmodified_since(&asked.fields, entry)
+        is_unmodified_by_if_modified_since(&asked.fields, entry)
     }
 }
 
-fn is_not_before_if_stated(moment: Option<u64>, changed: Option<u64>) -> bool
-    ensures { result ≡ is_not_before_if_stated moment changed }
+fn are_known_and_not_before(moment: Option<u64>, changed: Option<u64>) -> bool
+    ensures { result ≡ are_known_and_not_before moment changed }
 {
     match changed {
         Some(changed) => moment_is_not_before(moment, changed),
@@ -139,12 +141,12 @@ fn is_not_before_if_stated(moment: Option<u64>, changed: Option<u64>) -> bool
 }
 
 /// Whether an answer states that it hasn't changed since If-Modified-Since.
-fn states_unmodified_since(request: &Fields, fields: &Fields) -> bool
-    ensures { result ≡ states_unmodified_since request.now fields.now }
+fn answer_states_no_change_since(request: &Fields, fields: &Fields) -> bool
+    ensures { result ≡ answer_states_no_change_since request.now fields.now }
 {
-    is_not_before_if_stated(
-        single_valid_date(request, b"If-Modified-Since"),
-        single_valid_date(fields, b"Last-Modified"),
+    are_known_and_not_before(
+        moment_of_single_date(request, b"If-Modified-Since"),
+        moment_of_single_date(fields, b"Last-Modified"),
     )
 }
 
@@ -159,7 +161,7 @@ pub fn client_wants_304_for_answer(asked: &Asked, status: u16, fields: &Fields) 
     } else if asked.fields.has(b"If-None-Match") {
         if_none_match_matches_fields(&asked.fields, fields)
     } else {
-        states_unmodified_since(&asked.fields, fields)
+        answer_states_no_change_since(&asked.fields, fields)
     }
 }
 
@@ -178,7 +180,7 @@ fn is_field_of_304(line: &Field, tagged: bool) -> bool
 }
 
 /// The lines of the 304 that stands for a stored response. Its only error is out of memory.
-pub fn not_modified(alloc: Global, entry: &Entry) -> Result<Fields, AllocError>
+pub fn not_modified_fields(alloc: Global, entry: &Entry) -> Result<Fields, AllocError>
     ensures { IfOk result (λ fields. fields ≡ fields_of_304 entry.now.fields) }
 {
     let tagged = entry.fields.has(b"ETag");
@@ -200,8 +202,8 @@ fn is_field_of_304_to_answer(line: &Field, tagged: bool) -> bool
 }
 
 /// The lines of the 304 that stands for an answer of these lines. Its only error is out of memory.
-pub fn answer_not_modified(alloc: Global, fields: &Fields) -> Result<Fields, AllocError>
-    ensures { IfOk result (λ carried. carried ≡ fields_of_304_to_answer fields.now) }
+pub fn not_modified_fields_of_answer(alloc: Global, fields: &Fields) -> Result<Fields, AllocError>
+    ensures { IfOk result (λ carried. carried ≡ fields_of_304_from_answer fields.now) }
 {
     let tagged = fields.has(b"ETag");
     let mut carried = Fields::new(alloc);

@@ -2,8 +2,8 @@
 //!
 //! The definition is in `specs/Answering.antt`.
 ghost use Rattle.std.specs.Prelude.{◌≡◌, ◌++◌, [], filter, not, IfOk, OnOk};
-ghost use Rattle.hx_vary.specs.Vary.{nomination_with};
-ghost use Rattle.hx_validate.specs.LineNames.{SetHasExactlyTheFieldNames};
+ghost use Rattle.hx_vary.specs.Vary.{nomination_with_further_names};
+ghost use Rattle.hx_validate.specs.LineNames.{SetHasExactlyTheNamesOfFields};
 ghost use Rattle.hx_validate.specs.Answering.{freshened_fields, freshened_of, is_field_taken_from_304};
 ghost use Rattle.hx_validate.specs.Answering.{is_stored_field_replaced_by_304};
 ghost use Rattle.hx_validate.specs.Answering.{nominated_values_unless_star};
@@ -89,7 +89,7 @@ fn push_unreplaced_by_many_lines(
 
 /// The names of these lines.
 fn line_names(alloc: Global, lines: &[Field]) -> Result<BTreeSet<FoldedName>, AllocError>
-    ensures { IfOk result (λ names. SetHasExactlyTheFieldNames lines.now names) }
+    ensures { IfOk result (λ names. SetHasExactlyTheNamesOfFields lines.now names) }
 {
     let mut names = BTreeSet::new(alloc);
     for line in lines {
@@ -139,7 +139,7 @@ fn nominated_values_unless_star(
     request: &Fields,
 ) -> Result<Nominated, AllocError>
     ensures { IfOk result (λ nominated. nominated
-        ≡ nominated_values_unless_star (nomination_with further.now fields.now request.now)) }
+        ≡ nominated_values_unless_star (nomination_with_further_names further.now fields.now request.now)) }
 {
     match Nominated::with(alloc, further, fields, request)? {
         Nomination::Names(nominated) => Ok(nominated),

@@ -2,16 +2,16 @@
 //! law, and its body is empty.
 ghost use Rattle.std.specs.Prelude.{◌≡◌, [], ◌∷◌, codes, true, false, Some, None};
 ghost use Rattle.hx_fields.specs.Examples.{line};
-ghost use Rattle.hx_age.specs.Age.{lifetime_ended_by_purge, times_of_message};
+ghost use Rattle.hx_age.specs.Age.{lifetime_shortened_by_purge, times_of_message};
 ghost use Rattle.hx_age.specs.Lifetime.{explicit_lifetime, lifetime_of};
 ghost use Rattle.hx_validate.specs.Answering.{freshened_fields, freshened_of};
 ghost use Rattle.hx_validate.specs.Cases.{answered_304_with, asked_get_with, first_304_fields, first_stored_fields};
-ghost use Rattle.hx_validate.specs.Cases.{first_stored_purged};
-ghost use Rattle.hx_validate.specs.Cases.{is_answered_by_304, many_lines};
+ghost use Rattle.hx_validate.specs.Cases.{first_stored_expired_at_130};
+ghost use Rattle.hx_validate.specs.Cases.{stored_fields_validated_by_304, many_lines};
 ghost use Rattle.hx_validate.specs.Cases.{last_modified_line, example_304_lines, if_none_match_line};
 ghost use Rattle.hx_validate.specs.Cases.{example_stored_lines};
 ghost use Rattle.hx_validate.specs.Cases.{if_modified_since_line, stored_with_fields};
-ghost use Rattle.hx_validate.specs.Cases.{etag_line, client_gets_304_with};
+ghost use Rattle.hx_validate.specs.Cases.{etag_line, asked_and_stored_fields_give_304};
 ghost use Rattle.hx_validate.specs.EntityTags.{is_tag_byte, strong_eq, entity_tag_of, weak_eq};
 ghost use Rattle.hx_validate.specs.Identified.{A304AnswersOnlyTheStoredItIdentifies, A304AnswersTheStoredItIdentifies};
 ghost use Rattle.hx_validate.specs.Identified.{A304FreshensOnlyAStoredOfItsTag};
@@ -21,21 +21,21 @@ ghost use Rattle.hx_validate.specs.TagsAndFreshening.{OtherStoredFieldsAreUnchan
 ghost use Rattle.hx_validate.specs.TagsAndFreshening.{FresheningChangesOnlyFieldsAndTimes};
 ghost use Rattle.hx_validate.specs.TagsAndFreshening.{FreshenedIsNominatedByNewFields};
 ghost use Rattle.hx_validate.specs.TagsAndFreshening.{FreshenedWithVaryStarNominatesNothing};
-ghost use Rattle.hx_validate.specs.TagsAndFreshening.{EachEntityTagIsRead};
+ghost use Rattle.hx_validate.specs.TagsAndFreshening.{EachEntityTagSpellingIsRead};
 ghost use Rattle.hx_validate.specs.TagsAndFreshening.{EntityTagIsOfTheGrammar, FieldsOf304ReplaceStoredOnes};
 ghost use Rattle.hx_validate.specs.TagsAndFreshening.{StrongEqualityImpliesWeak, A304WithTheSameTagAnswers};
 ghost use Rattle.hx_validate.specs.ClientConditions.{FalseClientConditionGets304, OnlyFalseClientConditionGets304};
 ghost use Rattle.hx_validate.specs.ClientConditions.{AnswerThatGets304GetsItFromTheStore};
 ghost use Rattle.hx_validate.specs.NotModified.{fields_of_304, stored_gets_304, answer_gets_304};
-ghost use Rattle.hx_validate.specs.NotModified.{fields_of_304_to_answer};
+ghost use Rattle.hx_validate.specs.NotModified.{fields_of_304_from_answer};
 ghost use Rattle.hx_validate.specs.Room.{LeftRoomHoldsAddedLines, FittingLinesLeaveRoom, HeadRoomIsExactToTheByte};
 ghost use Rattle.hx_validate.specs.Room.{head_leaves_room};
-ghost use Rattle.hx_validate.specs.Validators.{conditions_of, has_validator};
+ghost use Rattle.hx_validate.specs.Validators.{validating_conditions_of, has_validator};
 
 /// Entity tags are those of the grammar, and no others.
 pub fn entity_tags_are_those_of_the_grammar()
     ensures only_these { EntityTagIsOfTheGrammar }
-    ensures each { EachEntityTagIsRead }
+    ensures each { EachEntityTagSpellingIsRead }
 {}
 
 /// Strong equality is the narrower of the two, and both go both ways.
@@ -89,8 +89,9 @@ pub fn worked_entity_tag_comparisons()
 /// A validator stands once, and is well formed.
 #[tactic(auto, unfolding(httpdate::proofs::OnLiterals::httpdate_on_literals))]
 pub fn worked_validators()
-    ensures tag { conditions_of (etag_line (codes "W/\"e\"") ∷ []) ≡ record { etag = Some (codes "W/\"e\""); modified = None } }
-    ensures date { conditions_of (last_modified_line (codes "Thu, 01 Jan 1970 00:00:05 GMT") ∷ [])
+    ensures tag { validating_conditions_of (etag_line (codes "W/\"e\"") ∷ [])
+        ≡ record { etag = Some (codes "W/\"e\""); modified = None } }
+    ensures date { validating_conditions_of (last_modified_line (codes "Thu, 01 Jan 1970 00:00:05 GMT") ∷ [])
         ≡ record { etag = None; modified = Some (codes "Thu, 01 Jan 1970 00:00:05 GMT") } }
     ensures has_tag { has_validator (etag_line (codes "W/\"e\"") ∷ []) ≡ true }
     ensures has_date { has_validator (last_modified_line (codes "Thu, 01 Jan 1970 00:00:05 GMT") ∷ []) ≡ true }
@@ -102,22 +103,22 @@ pub fn worked_validators()
 /// A stored response with a weak tag: a 304 with the same tag, a strong one, two, one that is none, and none at all.
 /// With a Last-Modified: a 304 of the same, of a later one, in two halves, with a tag.
 #[tactic(auto, unfolding(httpdate::proofs::OnLiterals::httpdate_on_literals))]
-pub fn which_304_answers()
-    ensures same { is_answered_by_304 (etag_line (codes "W/\"e\"") ∷ []) (etag_line (codes "W/\"e\"") ∷ []) ≡ true }
-    ensures strong { is_answered_by_304 (etag_line (codes "W/\"e\"") ∷ []) (etag_line (codes "\"e\"") ∷ []) ≡ false }
-    ensures two { is_answered_by_304 (etag_line (codes "W/\"e\"") ∷ []) (etag_line (codes "\"e\"") ∷ etag_line
+pub fn worked_304s_that_validate()
+    ensures same { stored_fields_validated_by_304 (etag_line (codes "W/\"e\"") ∷ []) (etag_line (codes "W/\"e\"") ∷ []) ≡ true }
+    ensures strong { stored_fields_validated_by_304 (etag_line (codes "W/\"e\"") ∷ []) (etag_line (codes "\"e\"") ∷ []) ≡ false }
+    ensures two { stored_fields_validated_by_304 (etag_line (codes "W/\"e\"") ∷ []) (etag_line (codes "\"e\"") ∷ etag_line
         (codes "\"e\"") ∷ []) ≡ false }
-    ensures malformed { is_answered_by_304 (etag_line (codes "W/\"e\"") ∷ []) (etag_line (codes "e") ∷ []) ≡ false }
-    ensures none { is_answered_by_304 (etag_line (codes "W/\"e\"") ∷ []) [] ≡ true }
-    ensures weak { is_answered_by_304 (etag_line (codes "\"e\"") ∷ []) (etag_line (codes "W/\"e\"") ∷ []) ≡ true }
-    ensures other { is_answered_by_304 (etag_line (codes "\"foo\"") ∷ []) (etag_line (codes "\"bar\"") ∷ []) ≡ false }
-    ensures same_date { is_answered_by_304 (last_modified_line (codes "Thu, 01 Jan 1970 00:00:05 GMT") ∷ [])
+    ensures malformed { stored_fields_validated_by_304 (etag_line (codes "W/\"e\"") ∷ []) (etag_line (codes "e") ∷ []) ≡ false }
+    ensures none { stored_fields_validated_by_304 (etag_line (codes "W/\"e\"") ∷ []) [] ≡ true }
+    ensures weak { stored_fields_validated_by_304 (etag_line (codes "\"e\"") ∷ []) (etag_line (codes "W/\"e\"") ∷ []) ≡ true }
+    ensures other { stored_fields_validated_by_304 (etag_line (codes "\"foo\"") ∷ []) (etag_line (codes "\"bar\"") ∷ []) ≡ false }
+    ensures same_date { stored_fields_validated_by_304 (last_modified_line (codes "Thu, 01 Jan 1970 00:00:05 GMT") ∷ [])
         (last_modified_line (codes "Thu, 01 Jan 1970 00:00:05 GMT") ∷ []) ≡ true }
-    ensures later { is_answered_by_304 (last_modified_line (codes "Thu, 01 Jan 1970 00:00:05 GMT") ∷ [])
+    ensures later { stored_fields_validated_by_304 (last_modified_line (codes "Thu, 01 Jan 1970 00:00:05 GMT") ∷ [])
         (last_modified_line (codes "Thu, 01 Jan 1970 00:00:06 GMT") ∷ []) ≡ false }
-    ensures halves { is_answered_by_304 (last_modified_line (codes "Thu, 01 Jan 1970 00:00:05 GMT")
+    ensures halves { stored_fields_validated_by_304 (last_modified_line (codes "Thu, 01 Jan 1970 00:00:05 GMT")
         ∷ []) (last_modified_line (codes "Thu") ∷ last_modified_line (codes "01 Jan 1970 00:00:05 GMT") ∷ []) ≡ false }
-    ensures first_tag { is_answered_by_304 (last_modified_line (codes "Thu, 01 Jan 1970 00:00:05 GMT")
+    ensures first_tag { stored_fields_validated_by_304 (last_modified_line (codes "Thu, 01 Jan 1970 00:00:05 GMT")
         ∷ []) (last_modified_line (codes "Thu, 01 Jan 1970 00:00:05 GMT") ∷ etag_line (codes "\"foo\"") ∷ []) ≡ false }
 {}
 
@@ -131,7 +132,7 @@ pub fn worked_freshened_fields()
 /// The client sent the tag that the 304 gave back: it gets a 304 of the freshened lines.
 #[tactic(auto, unfolding(httpdate::proofs::OnLiterals::httpdate_on_literals, crate::specs::Answering::freshened_of))]
 pub fn client_304_after_validation()
-    ensures answered { is_answered_by_304 first_stored_fields first_304_fields ≡ true }
+    ensures answered { stored_fields_validated_by_304 first_stored_fields first_304_fields ≡ true }
     ensures freshened { (freshened_of [] (stored_with_fields first_stored_fields) (answered_304_with first_304_fields)
         (asked_get_with []) (times_of_message first_304_fields 160 160)).fields ≡ first_304_fields }
     ensures wanted { stored_gets_304 (asked_get_with (line (codes "If-None-Match") (codes "\"v1\"")
@@ -145,54 +146,67 @@ pub fn client_304_after_validation()
 
 /// A purge at 130 left half a minute of a minute. The 304 at 160 ends that: its moments are without a purge.
 #[tactic(auto, unfolding(httpdate::proofs::OnLiterals::httpdate_on_literals, crate::specs::Answering::freshened_of))]
-pub fn worked_purge_ends_by_validation()
-    ensures purged { lifetime_ended_by_purge first_stored_purged.times (lifetime_of first_stored_purged.fields)
+pub fn worked_304_ends_effect_of_purge()
+    ensures purged { lifetime_shortened_by_purge first_stored_expired_at_130.times
+        (lifetime_of first_stored_expired_at_130.fields)
         ≡ explicit_lifetime 30 }
-    ensures moments { (freshened_of [] first_stored_purged (answered_304_with first_304_fields) (asked_get_with [])
+    ensures moments { (freshened_of [] first_stored_expired_at_130 (answered_304_with first_304_fields)
+        (asked_get_with [])
         (times_of_message first_304_fields 160 160)).times
         ≡ record { date = 160; age_value = 0; request_time = 160; response_time = 160; expired = None } }
-    ensures fresh { lifetime_ended_by_purge (times_of_message first_304_fields 160 160) (lifetime_of first_304_fields)
+    ensures fresh { lifetime_shortened_by_purge (times_of_message first_304_fields 160 160)
+        (lifetime_of first_304_fields)
         ≡ explicit_lifetime 60 }
 {}
 
 /// If-None-Match decides alone where it stands: by a star, or by weak equality with a member.
 #[tactic(auto, unfolding(httpdate::proofs::OnLiterals::httpdate_on_literals))]
 pub fn worked_if_none_match()
-    ensures star { client_gets_304_with (if_none_match_line (codes "*") ∷ []) [] ≡ true }
-    ensures equal { client_gets_304_with (if_none_match_line (codes "\"e\"") ∷ []) (etag_line (codes "\"e\"") ∷ []) ≡ true }
-    ensures weak { client_gets_304_with (if_none_match_line (codes "W/\"e\"") ∷ []) (etag_line (codes "\"e\"") ∷ []) ≡ true }
-    ensures second { client_gets_304_with (if_none_match_line (codes "\"a, b\", \"e\"") ∷ []) (etag_line (codes "W/\"e\"") ∷ []) ≡ true }
-    ensures second_line { client_gets_304_with (if_none_match_line (codes "\"a\"") ∷ if_none_match_line (codes "\"e\"")
+    ensures star { asked_and_stored_fields_give_304 (if_none_match_line (codes "*") ∷ []) [] ≡ true }
+    ensures equal { asked_and_stored_fields_give_304 (if_none_match_line (codes "\"e\"") ∷ [])
+        (etag_line (codes "\"e\"") ∷ []) ≡ true }
+    ensures weak { asked_and_stored_fields_give_304 (if_none_match_line (codes "W/\"e\"") ∷ [])
+        (etag_line (codes "\"e\"") ∷ []) ≡ true }
+    ensures second { asked_and_stored_fields_give_304 (if_none_match_line (codes "\"a, b\", \"e\"") ∷ [])
+        (etag_line (codes "W/\"e\"") ∷ []) ≡ true }
+    ensures second_line { asked_and_stored_fields_give_304
+        (if_none_match_line (codes "\"a\"") ∷ if_none_match_line (codes "\"e\"")
         ∷ []) (etag_line (codes "\"e\"") ∷ []) ≡ true }
-    ensures other { client_gets_304_with (if_none_match_line (codes "\"f\"") ∷ []) (etag_line (codes "\"e\"") ∷ []) ≡ false }
-    ensures star_among { client_gets_304_with (if_none_match_line (codes "*, \"f\"") ∷ []) (etag_line (codes "\"e\"") ∷ []) ≡ false }
-    ensures two_stars { client_gets_304_with (if_none_match_line (codes "*") ∷ if_none_match_line (codes "*") ∷ [])
+    ensures other { asked_and_stored_fields_give_304 (if_none_match_line (codes "\"f\"") ∷ [])
+        (etag_line (codes "\"e\"") ∷ []) ≡ false }
+    ensures star_among { asked_and_stored_fields_give_304 (if_none_match_line (codes "*, \"f\"") ∷ [])
+        (etag_line (codes "\"e\"") ∷ []) ≡ false }
+    ensures two_stars { asked_and_stored_fields_give_304
+        (if_none_match_line (codes "*") ∷ if_none_match_line (codes "*") ∷ [])
         (etag_line (codes "\"e\"") ∷ [])
         ≡ false }
-    ensures no_tag { client_gets_304_with (if_none_match_line (codes "e") ∷ []) (etag_line (codes "e") ∷ []) ≡ false }
-    ensures hides { client_gets_304_with (if_none_match_line (codes "\"f\"") ∷ if_modified_since_line
+    ensures no_tag { asked_and_stored_fields_give_304 (if_none_match_line (codes "e") ∷ []) (etag_line (codes "e") ∷ [])
+        ≡ false }
+    ensures hides { asked_and_stored_fields_give_304 (if_none_match_line (codes "\"f\"") ∷ if_modified_since_line
         (codes "Thu, 01 Jan 1970 00:00:05 GMT") ∷ []) (last_modified_line (codes "Thu, 01 Jan 1970 00:00:05 GMT") ∷ []) ≡ false }
-    ensures hides_empty { client_gets_304_with (if_none_match_line [] ∷ if_modified_since_line
+    ensures hides_empty { asked_and_stored_fields_give_304 (if_none_match_line [] ∷ if_modified_since_line
         (codes "Thu, 01 Jan 1970 00:00:05 GMT") ∷ []) (last_modified_line (codes "Thu, 01 Jan 1970 00:00:05 GMT") ∷ []) ≡ false }
-    ensures hides_earlier { client_gets_304_with (if_none_match_line (codes "\"e\"") ∷ if_modified_since_line (codes "Thu, 01 Jan 1970 00:00:04 GMT")
+    ensures hides_earlier { asked_and_stored_fields_give_304
+        (if_none_match_line (codes "\"e\"") ∷ if_modified_since_line (codes "Thu, 01 Jan 1970 00:00:04 GMT")
         ∷ []) (etag_line (codes "\"e\"") ∷ last_modified_line (codes "Thu, 01 Jan 1970 00:00:05 GMT") ∷ []) ≡ true }
 {}
 
 /// If-Modified-Since is held against Last-Modified, and against the date 100 where that is no validator.
 #[tactic(auto, unfolding(httpdate::proofs::OnLiterals::httpdate_on_literals))]
 pub fn worked_if_modified_since()
-    ensures equal { client_gets_304_with (if_modified_since_line (codes "Thu, 01 Jan 1970 00:00:05 GMT") ∷ [])
+    ensures equal { asked_and_stored_fields_give_304 (if_modified_since_line (codes "Thu, 01 Jan 1970 00:00:05 GMT") ∷ [])
         (last_modified_line (codes "Thu, 01 Jan 1970 00:00:05 GMT") ∷ []) ≡ true }
-    ensures later { client_gets_304_with (if_modified_since_line (codes "Thu, 01 Jan 1970 00:00:06 GMT") ∷ [])
+    ensures later { asked_and_stored_fields_give_304 (if_modified_since_line (codes "Thu, 01 Jan 1970 00:00:06 GMT") ∷ [])
         (last_modified_line (codes "Thu, 01 Jan 1970 00:00:05 GMT") ∷ []) ≡ true }
-    ensures earlier { client_gets_304_with (if_modified_since_line (codes "Thu, 01 Jan 1970 00:00:04 GMT") ∷ [])
+    ensures earlier { asked_and_stored_fields_give_304 (if_modified_since_line (codes "Thu, 01 Jan 1970 00:00:04 GMT") ∷ [])
         (last_modified_line (codes "Thu, 01 Jan 1970 00:00:05 GMT") ∷ []) ≡ false }
-    ensures by_date { client_gets_304_with (if_modified_since_line (codes "Thu, 01 Jan 1970 00:01:40 GMT") ∷ []) (etag_line (codes "\"e\"") ∷ []) ≡ true }
-    ensures before_date { client_gets_304_with (if_modified_since_line (codes "Thu, 01 Jan 1970 00:01:39 GMT") ∷ []) [] ≡ false }
-    ensures two { client_gets_304_with (if_modified_since_line (codes "Thu, 01 Jan 1970 00:01:40 GMT")
+    ensures by_date { asked_and_stored_fields_give_304
+        (if_modified_since_line (codes "Thu, 01 Jan 1970 00:01:40 GMT") ∷ []) (etag_line (codes "\"e\"") ∷ []) ≡ true }
+    ensures before_date { asked_and_stored_fields_give_304 (if_modified_since_line (codes "Thu, 01 Jan 1970 00:01:39 GMT") ∷ []) [] ≡ false }
+    ensures two { asked_and_stored_fields_give_304 (if_modified_since_line (codes "Thu, 01 Jan 1970 00:01:40 GMT")
         ∷ if_modified_since_line (codes "Thu, 01 Jan 1970 00:01:40 GMT") ∷ []) [] ≡ false }
-    ensures no_date { client_gets_304_with (if_modified_since_line (codes "yesterday") ∷ []) [] ≡ false }
-    ensures none { client_gets_304_with [] [] ≡ false }
+    ensures no_date { asked_and_stored_fields_give_304 (if_modified_since_line (codes "yesterday") ∷ []) [] ≡ false }
+    ensures none { asked_and_stored_fields_give_304 [] [] ≡ false }
     ensures other_status { stored_gets_304 (asked_get_with (if_none_match_line (codes "*") ∷ []))
         (record (stored_with_fields []) { status = 404 }) ≡ false }
 {}
@@ -264,15 +278,15 @@ pub fn worked_fields_of_304()
 {}
 
 /// The lines that a 304 in place of an answer carries beside them: its Age and its cookies.
-pub fn worked_fields_of_304_to_answer()
-    ensures age { fields_of_304_to_answer (line (codes "Age") (codes "1") ∷ []) ≡ line (codes "Age") (codes "1") ∷ [] }
-    ensures cookies { fields_of_304_to_answer (line (codes "Set-Cookie") (codes "a") ∷ line (codes "set-cookie") (codes "b") ∷ [])
+pub fn worked_fields_of_304_replacing_answer()
+    ensures age { fields_of_304_from_answer (line (codes "Age") (codes "1") ∷ []) ≡ line (codes "Age") (codes "1") ∷ [] }
+    ensures cookies { fields_of_304_from_answer (line (codes "Set-Cookie") (codes "a") ∷ line (codes "set-cookie") (codes "b") ∷ [])
         ≡ line (codes "Set-Cookie") (codes "a") ∷ line (codes "set-cookie") (codes "b") ∷ [] }
-    ensures etag { fields_of_304_to_answer (last_modified_line (codes "b") ∷ etag_line (codes "a") ∷ [])
+    ensures etag { fields_of_304_from_answer (last_modified_line (codes "b") ∷ etag_line (codes "a") ∷ [])
         ≡ etag_line (codes "a") ∷ [] }
-    ensures modified { fields_of_304_to_answer (last_modified_line (codes "b") ∷ [])
+    ensures modified { fields_of_304_from_answer (last_modified_line (codes "b") ∷ [])
         ≡ last_modified_line (codes "b") ∷ [] }
-    ensures others { fields_of_304_to_answer (line (codes "Content-Type") (codes "b") ∷ line (codes "Content-Encoding") (codes "c")
+    ensures others { fields_of_304_from_answer (line (codes "Content-Type") (codes "b") ∷ line (codes "Content-Encoding") (codes "c")
         ∷ line (codes "Server") (codes "c") ∷ []) ≡ [] }
 {}
 

@@ -17,14 +17,15 @@ mod room;
 mod stored_validators;
 
 pub use client_conditions::{
-    answer_not_modified, client_wants_304, client_wants_304_for_answer, not_modified,
+    client_wants_304, client_wants_304_for_answer, not_modified_fields,
+    not_modified_fields_of_answer,
 };
 pub use entity_tags::{strong_eq, weak_eq};
 pub use freshening::freshened;
 pub use matching_304::answers;
 pub use ranges::{
     ByteRange, RangeAnswer, answer_to_range, answer_unsatisfied_fields, fields_of_206_part,
-    range_answer, range_answer_of, range_asked, unsatisfied_fields,
+    range_answer, range_answer_of, range_asked, unsatisfiable_range_fields,
 };
 pub use room::head_leaves_room;
 pub use stored_validators::{conditions, has_validator};

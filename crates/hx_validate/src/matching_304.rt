@@ -4,10 +4,10 @@
 ghost use Rattle.std.specs.Prelude.{◌≡◌, codes, option_copied};
 ghost use Rattle.hx_vary.specs.Vary.{is_same_value};
 ghost use Rattle.hx_validate.specs.EntityTags.{entity_tag_of};
-ghost use Rattle.hx_validate.specs.Validators.{conditions_of};
-ghost use Rattle.hx_validate.specs.Answering.{validators_match_sent, tag_matches_by_strength, answers304};
+ghost use Rattle.hx_validate.specs.Validators.{validating_conditions_of};
+ghost use Rattle.hx_validate.specs.Answering.{validators_match_sent, tag_matches_by_strength, is_validated_by_304};
 ghost use Rattle.hx_validate.specs.Answering.{last_modified_matches_sent};
-ghost use Rattle.hx_validate.specs.Answering.{conditions_are_unchanged};
+ghost use Rattle.hx_validate.specs.Answering.{held_conditions_equal_sent};
 ghost use Rattle.hx_validate.specs.Answering.{etag_matches_sent};
 
 use crate::entity_tags::{EntityTag, strong_eq, weak_eq};
@@ -28,7 +28,7 @@ fn is_same_value(held: Option<&[u8]>, sent: Option<&Bytes>) -> bool
 
 /// Whether the validators that were sent are those of these fields.
 fn validators_are_as_sent(fields: &Fields, sent: &Conditions) -> bool
-    ensures { result ≡ conditions_are_unchanged (conditions_of fields.now) sent.now }
+    ensures { result ≡ held_conditions_equal_sent (validating_conditions_of fields.now) sent.now }
 {
     is_same_value(etag_validator(fields), sent.etag.as_ref())
         && is_same_value(date_validator(fields), sent.modified.as_ref())
@@ -84,7 +84,7 @@ fn validators_match_sent(sent: &Conditions, fields: &Fields) -> bool
 /// Whether a 304 to these conditions answers a stored response, which the caller knows to be held: its validators
 /// are still those that were sent, and those of the 304, if it has any, agree with them.
 pub fn answers(entry: &Entry, sent: &Conditions, answered: &Answered) -> bool
-    ensures { result ≡ answers304 entry.now sent.now answered.now }
+    ensures { result ≡ is_validated_by_304 entry.now sent.now answered.now }
 {
     validators_are_as_sent(&entry.fields, sent) && validators_match_sent(sent, &answered.fields)
 }

@@ -5,7 +5,7 @@ ghost use Rattle.hx_fields.specs.Examples.{line};
 ghost use Rattle.hx_validate.specs.Cases.{asked_get_with, etag_line, last_modified_line, stored_with_fields};
 ghost use Rattle.hx_validate.specs.RangeCases.{answer_to_range_text, range_line, if_range_line, answer_with};
 ghost use Rattle.hx_validate.specs.RangeCases.{stored_of_ten_bytes};
-ghost use Rattle.hx_validate.specs.RangeCases.{stored_part_of_ten_bytes, status_of_part_with_lines};
+ghost use Rattle.hx_validate.specs.RangeCases.{stored_part_of_ten_bytes, range_status_for_line_count};
 ghost use Rattle.hx_validate.specs.Ranges.{byte_range_of_value, range_asked, range_answer, response_as_range_or_whole};
 ghost use Rattle.hx_validate.specs.Ranges.{if_range_holds, fields_of_206, fields_of_416, fields_of_416_to_answer};
 ghost use Rattle.hx_validate.specs.RangeWords.{PartIsWithinTheContent, PartHasExactlyTheBytesAskedFor};
@@ -154,6 +154,6 @@ pub fn worked_parts_of_ten_bytes()
         ≡ record stored_of_ten_bytes { status = 416; fields = line (codes "Content-Range") (codes "bytes */10") ∷ []; content = [] } }
     ensures several { response_as_range_or_whole (asked_get_with (range_line (codes "bytes=0-1,3-4")
         ∷ [])) stored_of_ten_bytes ≡ stored_of_ten_bytes }
-    ensures full_head { status_of_part_with_lines 96 ≡ 200 }
-    ensures nearly_full_head { status_of_part_with_lines 95 ≡ 206 }
+    ensures full_head { range_status_for_line_count 96 ≡ 200 }
+    ensures nearly_full_head { range_status_for_line_count 95 ≡ 206 }
 {}

@@ -5,7 +5,7 @@ ghost use Rattle.std.specs.Prelude.{◌≡◌, ◌++◌, IfOk, OnOk, decimal, le
 ghost use Rattle.std.specs.List.{list_all};
 ghost use Rattle.std.specs.Char.{is_ascii_digit};
 ghost use Rattle.std.specs.Str.Parse.{digits_value};
-ghost use Rattle.hx_validate.specs.Ranges.{counted, range_position_of, byte_range_of_texts, byte_range_of_value};
+ghost use Rattle.hx_validate.specs.Ranges.{counted, range_number_of_digits, byte_range_of_texts, byte_range_of_value};
 ghost use Rattle.hx_validate.specs.Ranges.{if_range_equals_tag, if_range_equals_last_modified};
 ghost use Rattle.hx_validate.specs.Validators.{date_validator, etag_validator};
 ghost use Rattle.hx_validate.specs.Ranges.{byte_range_of_positions, range_asked, last_modified_is_strong};
@@ -17,8 +17,8 @@ ghost use Rattle.hx_validate.specs.Ranges.{is_field_of_416_to_answer, fields_of_
 
 use crate::entity_tags::strong_eq;
 use crate::stored_validators::{date_validator, etag_validator};
-use hx_age::single_valid_date;
-use hx_fields::{Bytes, Field, Fields, is_same_name, number_up_to, split_at_first_byte};
+use hx_age::moment_of_single_date;
+use hx_fields::{Bytes, Field, Fields, digits_value_if_at_most, is_same_name, split_at_first_byte};
 use hx_hop::Asked;
 use hx_store::Entry;
 use itoa::Buffer;
@@ -67,15 +67,15 @@ fn are_digits(text: &[u8]) -> bool
 fn counted(digits: &[u8]) -> u64
     ensures { result ≡ counted (digits_value 10 digits.now) }
 {
-    match number_up_to(u64::MAX, 10, digits) {
+    match digits_value_if_at_most(u64::MAX, 10, digits) {
         Some(number) => number,
         None => u64::MAX,
     }
 }
 
 /// The position or the number that digits spell.
-fn range_position_of(digits: &[u8]) -> Option<u64>
-    ensures { result ≡ range_position_of digits.now }
+fn range_number_of_digits(digits: &[u8]) -> Option<u64>
+    ensures { result ≡ range_number_of_digits digits.now }
 {
     if digits.is_empty() || !are_digits(digits) {
         return None;
@@ -97,11 +97,11 @@ fn byte_range_of_texts(first: &[u8], last: &[u8]) -> Option<ByteRange>
     ensures { result ≡ byte_range_of_texts first.now last.now }
 {
     if first.is_empty() {
-        range_position_of(last).map(ByteRange::Last)
+        range_number_of_digits(last).map(ByteRange::Last)
     } else if last.is_empty() {
-        range_position_of(first).map(ByteRange::From)
+        range_number_of_digits(first).map(ByteRange::From)
     } else {
-        byte_range_of_positions(range_position_of(first), range_position_of(last))
+        byte_range_of_positions(range_number_of_digits(first), range_number_of_digits(last))
     }
 }
 
@@ -132,7 +132,7 @@ pub fn range_asked(request: &Fields) -> Option<ByteRange>
 fn last_modified_is_strong(date: u64, fields: &Fields) -> bool
     ensures { result ≡ last_modified_is_strong date fields.now }
 {
-    match single_valid_date(fields, b"Last-Modified") {
+    match moment_of_single_date(fields, b"Last-Modified") {
         Some(changed) => SECONDS_LATER <= date.saturating_sub(changed),
         None => false,
     }
@@ -301,7 +301,7 @@ fn is_field_of_416(line: &Field) -> bool
 
 /// The lines of the 416 that tells how long a response is (RFC 9110, sections 14.4 and 15.5.17). Its only error is out
 /// of memory.
-pub fn unsatisfied_fields(alloc: Global, entry: &Entry) -> Result<Fields, AllocError>
+pub fn unsatisfiable_range_fields(alloc: Global, entry: &Entry) -> Result<Fields, AllocError>
     ensures { IfOk result (λ fields. fields ≡ fields_of_416 entry.now.fields (length entry.now.content)) }
 {
     let text = unsatisfied_text(alloc, entry.content.len())?;

@@ -3,7 +3,8 @@
 //! The definitions are in `specs/Validators.antt`. A validator that is repeated or malformed is none, and no
 //! condition is sent for it.
 ghost use Rattle.std.specs.Prelude.{◌≡◌, IfOk, option_copied};
-ghost use Rattle.hx_validate.specs.Validators.{conditions_of, has_validator, value_is_http_date, is_entity_tag};
+ghost use Rattle.hx_validate.specs.Validators.{validating_conditions_of, has_validator, value_is_http_date};
+ghost use Rattle.hx_validate.specs.Validators.{is_entity_tag};
 ghost use Rattle.hx_validate.specs.Validators.{date_validator};
 ghost use Rattle.hx_validate.specs.Validators.{etag_validator};
 
@@ -65,7 +66,7 @@ fn copied_value(alloc: Global, value: Option<&[u8]>) -> Result<Option<Bytes>, Al
 /// The conditions that ask an origin whether a stored response is still current: the values of its validators.
 /// Its only error is out of memory.
 pub fn conditions(alloc: Global, entry: &Entry) -> Result<Conditions, AllocError>
-    ensures { IfOk result (λ conditions. conditions ≡ conditions_of entry.now.fields) }
+    ensures { IfOk result (λ conditions. conditions ≡ validating_conditions_of entry.now.fields) }
 {
     Ok(Conditions {
         etag: copied_value(alloc, etag_validator(&entry.fields))?,

@@ -12,7 +12,7 @@ use Rattle.hx_fields.specs.Line.{Field}
 use Rattle.hx_vary.specs.declared.nominations.Nomination.{Nomination}
 use Rattle.hx_vary.specs.declared.nominations.Nomination.TheVariants.{Star, Names}
 use Rattle.hx_vary.specs.declared.limits.TheConstants.{MOST_VARY_NAMES}
-use Rattle.hx_vary.specs.Vary.{exceeds_most_vary_names, names_without_repeats, is_same_value, vary_is_star, is_star_member, nominated_value, nominated_values_with, vary_matches, vary_names, requests_have_same_values, FurtherNamesCountAsVary, FurtherNamesAreCompared, WithoutFurtherNamesVaryDecides}
+use Rattle.hx_vary.specs.Vary.{exceeds_most_vary_names, names_without_repeats, is_same_value, vary_counts_as_star, is_star_member, nominated_value, nominated_values_with_further_names, vary_matches, vary_names, requests_have_same_values, FurtherNamesCountAsVary, FurtherNamesAreCompared, WithoutFurtherNamesVaryDecides}
 use Rattle.hx_vary.proofs.OnceLemmas.{once_all, one_value}
 
 abbrev line_of_vary : List ℕ → Field
@@ -53,17 +53,17 @@ or_false false = refl
 pub with_a_line_more : FurtherNamesCountAsVary
 with_a_line_more response request value none few =
     let names = vary_names response in
-    let same_star : vary_is_star (response ++ line_of_vary value ∷ []) ≡ vary_is_star response =
+    let same_star : vary_counts_as_star (response ++ line_of_vary value ∷ []) ≡ vary_counts_as_star response =
     ap (λ all. exceeds_most_vary_names all || list_any is_star_member all) (names_more response value)
     ∙ ap (λ b. b || list_any is_star_member (names ++ members_of_value value)) (front_is_few names (members_of_value value) few)
     ∙ ap (λ b. exceeds_most_vary_names names || b) (list_any-append is_star_member names (members_of_value value) ∙ ap (λ b. list_any is_star_member names || b) none ∙ or_false (list_any is_star_member names)) in
     let kept : List (List ℕ) → Nomination = λ names. Names (map (nominated_value request) (names_without_repeats names)) in
     sym (ap (λ b. cond b Star (kept (vary_names (response ++ line_of_vary value ∷ [])))) same_star
-    ∙ ap (λ names. cond (vary_is_star response) Star (kept names)) (names_more response value))
+    ∙ ap (λ names. cond (vary_counts_as_star response) Star (kept names)) (names_more response value))
 
 pub nothing_further : WithoutFurtherNamesVaryDecides
 nothing_further response request =
-    ap (λ names. cond (vary_is_star response) Star (Names (map (nominated_value request) (names_without_repeats names)))) (append-nil (vary_names response))
+    ap (λ names. cond (vary_counts_as_star response) Star (Names (map (nominated_value request) (names_without_repeats names)))) (append-nil (vary_names response))
 
 over_names : (earlier later : List Field) (names : List (List ℕ)) → vary_matches (map (nominated_value earlier) names) later ≡ requests_have_same_values names earlier later
 over_names earlier later [] = refl

@@ -6,23 +6,23 @@ use Rattle.hx_fields.specs.FieldLines.{combined_of}
 use Rattle.hx_fields.specs.Line.{Field}
 use Rattle.hx_vary.specs.declared.nominated_values.NominatedValue.{NominatedValue}
 use Rattle.hx_vary.specs.Vary.{is_same_value, vary_matches}
-use Rattle.hx_vary.specs.Marks.{RequestValuesHaveTags, mark_of_values, tag_may_match, mark_may_match, value_tag_at, tags_with_value, value_tag, tags_of_values}
+use Rattle.hx_vary.specs.Marks.{RequestValuesHaveTags, mark_of_values, vary_tag_may_match, mark_may_match, value_tag_at, tags_with_value, value_tag, tags_of_values}
 
 same_value : (value : List ℕ) (other : Option (List ℕ)) → is_same_value (Some value) other ≡ true → other ≡ Some value
 same_value value None h = absurd (false≢true h)
 same_value value (Some w) h = ap Some (sym ((bytes_eq-Decides value w).0 h))
 
 passes : (seed : ℕ) (has : ℕ → Bool) (rest : List ℕ) (value : Option (List ℕ)) → ((v : List ℕ) → value ≡ Some v → has (value_tag seed v) ≡ true) →
-    ((n : ℕ) → tag_may_match has (value_tag_at n rest) ≡ true) → (n : ℕ) → tag_may_match has (value_tag_at n (tags_with_value seed rest value)) ≡ true
+    ((n : ℕ) → vary_tag_may_match has (value_tag_at n rest) ≡ true) → (n : ℕ) → vary_tag_may_match has (value_tag_at n (tags_with_value seed rest value)) ≡ true
 passes seed has rest None h more n = more n
 passes seed has rest (Some v) h more n =
-    elim (eqb n 0) as (λ b. tag_may_match has (cond b (value_tag seed v) (value_tag_at (n - 1) rest)) ≡ true) [
+    elim (eqb n 0) as (λ b. vary_tag_may_match has (cond b (value_tag seed v) (value_tag_at (n - 1) rest)) ≡ true) [
       | true ↦ or_right (eqb (value_tag seed v) 0) (has (value_tag seed v)) (h v refl)
       | false ↦ more (n - 1)
     ]
 
 each_passes : (seed : ℕ) (kept : List NominatedValue) (request : List Field) (has : ℕ → Bool) → RequestValuesHaveTags seed request has →
-    vary_matches kept request ≡ true → (n : ℕ) → tag_may_match has (value_tag_at n (tags_of_values seed kept)) ≡ true
+    vary_matches kept request ≡ true → (n : ℕ) → vary_tag_may_match has (value_tag_at n (tags_of_values seed kept)) ≡ true
 each_passes seed [] request has tags h n = refl
 each_passes seed (k ∷ kept) request has tags h n =
     let p = and_parts (is_same_value k.value (combined_of request k.name)) (vary_matches kept request) h in

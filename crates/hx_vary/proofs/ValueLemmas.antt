@@ -6,7 +6,7 @@ use Rattle.std.specs.Map.{lookup, values_of}
 use Rattle.std.specs.BTreeMap.{get, is_at}
 use Rattle.std.proofs.lemmas.Bool.{cases_Bool, false≢true}
 use Rattle.std.proofs.lemmas.Slice.Eq.{bytes_eq-Decides}
-use Rattle.hx_fields.specs.Folded.{folded, folded_cmp, folded_cmp_ties_are_equal}
+use Rattle.hx_fields.specs.Folded.{folded, folded_names_cmp, folded_cmp_ties_are_equal}
 use Rattle.hx_fields.specs.FieldLines.{combined_of}
 use Rattle.hx_fields.specs.Names.{joined}
 use Rattle.hx_fields.specs.Line.{Field}
@@ -69,7 +69,7 @@ combined_more lines line q =
 
 -- the values of these lines are gathered
 abbrev pub Gathered : List Field → Values → Type 0
-Gathered lines values = (q : List ℕ) → get folded_cmp values q ≡ combined_at lines q
+Gathered lines values = (q : List ℕ) → get folded_names_cmp values q ≡ combined_at lines q
 
 -- a value taken out and put in again, with that of a line more
 by_name : {X : Type 0} (t : Bool) (v none g : X) → cond t v (cond t none g) ≡ cond t v g
@@ -77,21 +77,21 @@ by_name true v none g = refl
 by_name false v none g = refl
 
 pub one_line_more : (lines : List Field) (line : Field) (v : List ℕ) (old without new : Values) → Gathered lines old →
-    v ≡ value_combined_with_line (get folded_cmp old (folded line.name)) line.value →
-    ((q : List ℕ) → get folded_cmp without q ≡ cond (is_at (folded_cmp (folded line.name)) q) None (get folded_cmp old q)) →
-    ((q : List ℕ) → get folded_cmp new q ≡ cond (is_at (folded_cmp (folded line.name)) q) (Some v) (get folded_cmp without q)) →
+    v ≡ value_combined_with_line (get folded_names_cmp old (folded line.name)) line.value →
+    ((q : List ℕ) → get folded_names_cmp without q ≡ cond (is_at (folded_names_cmp (folded line.name)) q) None (get folded_names_cmp old q)) →
+    ((q : List ℕ) → get folded_names_cmp new q ≡ cond (is_at (folded_names_cmp (folded line.name)) q) (Some v) (get folded_names_cmp without q)) →
     Gathered (lines ++ line ∷ []) new
 one_line_more lines line v old without new h is out put q =
     let name = folded line.name in
     put q
-    ∙ ap (λ g. cond (is_at (folded_cmp name) q) (Some v) g) (out q)
-    ∙ by_name (is_at (folded_cmp name) q) (Some v) None (get folded_cmp old q)
-    ∙ ap (λ b. cond b (Some v) (get folded_cmp old q)) (sym (folded_cmp_ties_are_equal name q))
+    ∙ ap (λ g. cond (is_at (folded_names_cmp name) q) (Some v) g) (out q)
+    ∙ by_name (is_at (folded_names_cmp name) q) (Some v) None (get folded_names_cmp old q)
+    ∙ ap (λ b. cond b (Some v) (get folded_names_cmp old q)) (sym (folded_cmp_ties_are_equal name q))
     ∙ (elim (cases_Bool (bytes_eq name q)) [
-      | inl t ↦ ap (λ b. cond b (Some v) (get folded_cmp old q)) t
+      | inl t ↦ ap (λ b. cond b (Some v) (get folded_names_cmp old q)) t
           ∙ ap Some (is ∙ ap (λ o. value_combined_with_line o line.value) (h name ∙ ap (combined_at lines) (one name q t)))
           ∙ sym (ap (λ b. cond b (Some (value_combined_with_line (combined_at lines q) line.value)) (combined_at lines q)) t)
-      | inr f ↦ ap (λ b. cond b (Some v) (get folded_cmp old q)) f
+      | inr f ↦ ap (λ b. cond b (Some v) (get folded_names_cmp old q)) f
           ∙ h q
           ∙ sym (ap (λ b. cond b (Some (value_combined_with_line (combined_at lines q) line.value)) (combined_at lines q)) f)
     ])
@@ -116,10 +116,10 @@ first_or_later true P v first later it more e = ap P (sym (some_is first v e)) �
 first_or_later false P v first later it more e = more e
 
 pub found_stands : (q v : List ℕ) (entries : List (List ℕ × List ℕ)) (P : List ℕ → Bool) → list_all P (values_of entries) ≡ true →
-    lookup (is_at (folded_cmp q)) entries ≡ Some v → P v ≡ true
+    lookup (is_at (folded_names_cmp q)) entries ≡ Some v → P v ≡ true
 found_stands q v [] P h e = absurd (false≢true (ap is_some e))
 found_stands q v (entry ∷ entries) P h e =
-    first_or_later (is_at (folded_cmp q) entry.0) P v entry.1 (lookup (is_at (folded_cmp q)) entries)
+    first_or_later (is_at (folded_names_cmp q) entry.0) P v entry.1 (lookup (is_at (folded_names_cmp q)) entries)
     (and_left (P entry.1) (list_all P (values_of entries)) h)
     (found_stands q v entries P (and_right (P entry.1) (list_all P (values_of entries)) h)) e
 

@@ -15,8 +15,8 @@ value_of_repeated_members zero = []
 value_of_repeated_members (suc n) = codes "a," ++ value_of_repeated_members n
 
 -- a line of the field that the cases nominate
-abbrev pub accept_language : List ℕ → Field
-accept_language value = line (codes "Accept-Language") value
+abbrev pub accept_language_line : List ℕ → Field
+accept_language_line value = line (codes "Accept-Language") value
 
 -- what a response that nominates this field keeps of a request
 abbrev pub nominated_values_for_language : List Field → List NominatedValue

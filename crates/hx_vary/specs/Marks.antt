@@ -49,13 +49,14 @@ mark_of_values seed kept =
     }
 
 -- no value stands there, or one that the request may have
-abbrev pub tag_may_match : (ℕ → Bool) → ℕ → Bool
-tag_may_match has tag = (tag == 0) || has tag
+abbrev pub vary_tag_may_match : (ℕ → Bool) → ℕ → Bool
+vary_tag_may_match has tag = (tag == 0) || has tag
 
 -- a request that has values of these tags may have those of the mark
 abbrev pub mark_may_match : (ℕ → Bool) → VariantMark → Bool
-mark_may_match has mark = tag_may_match has mark.first && tag_may_match has mark.second && tag_may_match has mark.third
-    && tag_may_match has mark.fourth
+mark_may_match has mark = vary_tag_may_match has mark.first && vary_tag_may_match has mark.second
+    && vary_tag_may_match has mark.third
+    && vary_tag_may_match has mark.fourth
 
 -- each value of the request has its tag among these
 abbrev pub RequestValuesHaveTags : ℕ → List Field → (ℕ → Bool) → Type 0

@@ -1,8 +1,8 @@
 -- What a response's Vary says of the requests that it may answer (RFC 9111, section 4.1; RFC 9110, section 12.5.5).
 --
--- vary_is_star: what may answer no other request, also where its Vary has more members than a cache compares
--- nomination_of: what is kept of the earlier request         nominates_a_field: it isn't nothing
--- nomination_with: the same where further names count as if its Vary had them
+-- vary_counts_as_star: what may answer no other request, also where its Vary has more members than a cache compares
+-- nomination_of: what is kept of the earlier request         nominates_any_field: it isn't nothing
+-- nomination_with_further_names: the same where further names count as if its Vary had them
 -- vary_matches: a later request's values are those that were kept
 -- requests_have_same_nominated_values: the same question, asked of the whole earlier request
 use Rattle.std.specs.Prelude.{◌≡◌, ◌≤◌, ◌<◌, ℕ, Bool, true, false, if◌then◌else◌, ◌||◌, ◌&&◌, not, List, [], ◌∷◌, ◌++◌}
@@ -39,12 +39,13 @@ abbrev pub exceeds_most_vary_names : List (List ℕ) → Bool
 exceeds_most_vary_names names = nat_lt MOST_VARY_NAMES (length names)
 
 -- the response may answer no other request (RFC 9111, section 4.1)
-abbrev pub vary_is_star : List Field → Bool
-vary_is_star response = exceeds_most_vary_names (vary_names response) || list_any is_star_member (vary_names response)
+abbrev pub vary_counts_as_star : List Field → Bool
+vary_counts_as_star response =
+    exceeds_most_vary_names (vary_names response) || list_any is_star_member (vary_names response)
 
 -- the members by which it is told which request it may answer; none where it may answer no other
 abbrev pub compared_vary_names : List Field → Option (List (List ℕ))
-compared_vary_names response = if vary_is_star response then None else Some (vary_names response)
+compared_vary_names response = if vary_counts_as_star response then None else Some (vary_names response)
 
 -- both are absent, or equal bytes
 abbrev pub is_same_value : Option (List ℕ) → Option (List ℕ) → Bool
@@ -63,25 +64,26 @@ nominated_values_of response request = map (nominated_value request) (names_with
 
 -- what is kept of the request that a response answers
 abbrev pub nomination_of : List Field → List Field → Nomination
-nomination_of response request = if vary_is_star response then Star else Names (nominated_values_of response request)
+nomination_of response request =
+    if vary_counts_as_star response then Star else Names (nominated_values_of response request)
 
 -- what nominates where further names count as if the response's Vary had them
 -- own: names that an operator gives, which no origin says ("A line varies its answers")
-abbrev pub nominating_names : List (List ℕ) → List Field → List (List ℕ)
-nominating_names further response = vary_names response ++ further
+abbrev pub vary_and_further_names : List (List ℕ) → List Field → List (List ℕ)
+vary_and_further_names further response = vary_names response ++ further
 
-abbrev pub nominated_values_with : List (List ℕ) → List Field → List Field → List NominatedValue
-nominated_values_with further response request =
-    map (nominated_value request) (names_without_repeats (nominating_names further response))
+abbrev pub nominated_values_with_further_names : List (List ℕ) → List Field → List Field → List NominatedValue
+nominated_values_with_further_names further response request =
+    map (nominated_value request) (names_without_repeats (vary_and_further_names further response))
 
 -- a star stays one
-abbrev pub nomination_with : List (List ℕ) → List Field → List Field → Nomination
-nomination_with further response request =
-    if vary_is_star response then Star else Names (nominated_values_with further response request)
+abbrev pub nomination_with_further_names : List (List ℕ) → List Field → List Field → Nomination
+nomination_with_further_names further response request =
+    if vary_counts_as_star response then Star else Names (nominated_values_with_further_names further response request)
 
 -- a field is nominated
-abbrev pub nominates_a_field : List NominatedValue → Bool
-nominates_a_field kept = not (length kept == 0)
+abbrev pub nominates_any_field : List NominatedValue → Bool
+nominates_any_field kept = not (length kept == 0)
 
 -- a request has each value that was kept
 abbrev pub vary_matches : List NominatedValue → List Field → Bool
@@ -111,11 +113,11 @@ RequestMatchesItsOwnNominatedValues = (response request : List Field)
 -- "A stored response with a Vary header field value containing a member "*" always fails to match"
 -- (RFC 9111, section 4.1)
 abbrev pub VaryStarIsNominatedAsStar : Type 0
-VaryStarIsNominatedAsStar = (response request : List Field) → vary_is_star response ≡ true
+VaryStarIsNominatedAsStar = (response request : List Field) → vary_counts_as_star response ≡ true
     → nomination_of response request ≡ Star
 
 abbrev pub EachVaryNameIsNominated : Type 0
-EachVaryNameIsNominated = (response request : List Field) → vary_is_star response ≡ false
+EachVaryNameIsNominated = (response request : List Field) → vary_counts_as_star response ≡ false
     → nomination_of response request ≡ Names (nominated_values_of response request)
 
 -- with more members than a cache compares nothing is kept either, whatever they are
@@ -133,7 +135,7 @@ VaryNamesUpToMostAreCompared = (response request : List Field) → length (vary_
 -- own: a Vary without members counts as none
 abbrev pub AMemberOfVaryNominates : Type 0
 AMemberOfVaryNominates = (response request : List Field) →
-    nominates_a_field (nominated_values_of response request) ≡ not (length (vary_names response) == 0)
+    nominates_any_field (nominated_values_of response request) ≡ not (length (vary_names response) == 0)
 
 -- Further names that are no star count as if the response had one more line of Vary with them. They don't count among
 -- the members of which too many are a star, so this is said where all of them together aren't too many.
@@ -141,15 +143,15 @@ abbrev pub FurtherNamesCountAsVary : Type 0
 FurtherNamesCountAsVary = (response request : List Field) (value : List ℕ) →
     list_any is_star_member (members_of_value value) ≡ false →
     length (vary_names response ++ members_of_value value) ≤ MOST_VARY_NAMES →
-    nomination_with (members_of_value value) response request
+    nomination_with_further_names (members_of_value value) response request
     ≡ nomination_of (response ++ record { name = codes "Vary"; value = value } ∷ []) request
 
 -- a later request matches exactly where it has the same values of what Vary names, and of the further names
 abbrev pub FurtherNamesAreCompared : Type 0
 FurtherNamesAreCompared = (further : List (List ℕ)) (response earlier later : List Field) →
-    vary_matches (nominated_values_with further response earlier) later
+    vary_matches (nominated_values_with_further_names further response earlier) later
     ≡ (requests_have_same_nominated_values response earlier later && requests_have_same_values further earlier later)
 
 abbrev pub WithoutFurtherNamesVaryDecides : Type 0
 WithoutFurtherNamesVaryDecides = (response request : List Field) →
-    nomination_with [] response request ≡ nomination_of response request
+    nomination_with_further_names [] response request ≡ nomination_of response request

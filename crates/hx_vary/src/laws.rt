@@ -5,14 +5,14 @@ ghost use Rattle.hx_vary.specs.Vary.{EachVaryNameIsNominated, VaryStarIsNominate
 ghost use Rattle.hx_vary.specs.Vary.{NominatedValuesDecideAsTheRequestDoes};
 ghost use Rattle.hx_vary.specs.Vary.{RequestMatchesItsOwnNominatedValues, AMemberOfVaryNominates};
 ghost use Rattle.hx_vary.specs.Vary.{names_without_repeats};
-ghost use Rattle.hx_vary.specs.Vary.{nominates_a_field};
-ghost use Rattle.hx_vary.specs.Vary.{vary_is_star, nominated_values_of, nomination_of, vary_matches};
-ghost use Rattle.hx_vary.specs.Vary.{nominated_values_with};
-ghost use Rattle.hx_vary.specs.Vary.{nomination_with};
+ghost use Rattle.hx_vary.specs.Vary.{nominates_any_field};
+ghost use Rattle.hx_vary.specs.Vary.{vary_counts_as_star, nominated_values_of, nomination_of, vary_matches};
+ghost use Rattle.hx_vary.specs.Vary.{nominated_values_with_further_names};
+ghost use Rattle.hx_vary.specs.Vary.{nomination_with_further_names};
 ghost use Rattle.hx_vary.specs.Vary.{TooManyVaryNamesCountAsStar, VaryNamesUpToMostAreCompared};
 ghost use Rattle.hx_vary.specs.Vary.{FurtherNamesCountAsVary, FurtherNamesAreCompared, WithoutFurtherNamesVaryDecides};
 ghost use Rattle.hx_vary.specs.Marks.{MarksMissNoMatch, TagOfAValueIsNever0};
-ghost use Rattle.hx_vary.specs.Cases.{nominated_values_for_language, accept_language, vary_fields};
+ghost use Rattle.hx_vary.specs.Cases.{nominated_values_for_language, accept_language_line, vary_fields};
 ghost use Rattle.hx_vary.specs.Cases.{value_of_repeated_members};
 
 use crate::nominations::Nomination;
@@ -47,9 +47,9 @@ pub fn vary_names_are_nominated_unless_star()
 /// nominates none.
 pub fn a_member_of_vary_nominates()
     ensures every { AMemberOfVaryNominates }
-    ensures a_name { nominates_a_field (nominated_values_for_language []) ≡ true }
-    ensures no_member { nominates_a_field (nominated_values_of (vary_fields (codes ", ,")) []) ≡ false }
-    ensures no_vary { nominates_a_field (nominated_values_of [] []) ≡ false }
+    ensures a_name { nominates_any_field (nominated_values_for_language []) ≡ true }
+    ensures no_member { nominates_any_field (nominated_values_of (vary_fields (codes ", ,")) []) ≡ false }
+    ensures no_vary { nominates_any_field (nominated_values_of [] []) ≡ false }
 {}
 
 /// Further names count as if the response's Vary had them: what is kept is the same as by one more line of Vary, and a
@@ -59,37 +59,40 @@ pub fn further_names_count_as_vary()
     ensures as_vary { FurtherNamesCountAsVary }
     ensures compared { FurtherNamesAreCompared }
     ensures without { WithoutFurtherNamesVaryDecides }
-    ensures star { nomination_with (codes "Accept-Language" ∷ []) (vary_fields (codes "*")) [] ≡ Nomination.Star }
-    ensures kept { nominated_values_with (codes "X-Forwarded-Proto" ∷ codes "ACCEPT-LANGUAGE" ∷ []) (vary_fields (codes "accept-language"))
-        (accept_language (codes "de") ∷ []) ≡ record { name = codes "accept-language"; value = Some (codes "de") }
+    ensures star { nomination_with_further_names (codes "Accept-Language" ∷ []) (vary_fields (codes "*")) [] ≡ Nomination.Star }
+    ensures kept { nominated_values_with_further_names (codes "X-Forwarded-Proto" ∷ codes "ACCEPT-LANGUAGE" ∷ []) (vary_fields (codes "accept-language"))
+        (accept_language_line (codes "de") ∷ []) ≡ record { name = codes "accept-language"; value = Some (codes "de") }
         ∷ record { name = codes "X-Forwarded-Proto"; value = None } ∷ [] }
-    ensures other { vary_matches (nominated_values_with (codes "Accept-Language" ∷ []) [] (accept_language (codes "de") ∷ []))
-        (accept_language (codes "en") ∷ []) ≡ false }
-    ensures same { vary_matches (nominated_values_with (codes "Accept-Language" ∷ []) [] (accept_language (codes "de") ∷ []))
-        (accept_language (codes "de") ∷ []) ≡ true }
-    ensures absent { vary_matches (nominated_values_with (codes "Accept-Language" ∷ []) [] (accept_language (codes "de") ∷ [])) []
+    ensures other { vary_matches
+        (nominated_values_with_further_names (codes "Accept-Language" ∷ []) [] (accept_language_line (codes "de") ∷ []))
+        (accept_language_line (codes "en") ∷ []) ≡ false }
+    ensures same { vary_matches
+        (nominated_values_with_further_names (codes "Accept-Language" ∷ []) [] (accept_language_line (codes "de") ∷ []))
+        (accept_language_line (codes "de") ∷ []) ≡ true }
+    ensures absent { vary_matches
+        (nominated_values_with_further_names (codes "Accept-Language" ∷ []) [] (accept_language_line (codes "de") ∷ [])) []
         ≡ false }
 {}
 
 /// Stored for a request in German: the same value, none, an empty one, two lines, and a response without Vary.
 pub fn vary_values_are_compared()
-    ensures same { vary_matches (nominated_values_for_language (accept_language (codes "de") ∷ []))
-        (accept_language (codes "de") ∷ []) ≡ true }
-    ensures absent { vary_matches (nominated_values_for_language (accept_language (codes "de") ∷ [])) [] ≡ false }
-    ensures empty { vary_matches (nominated_values_for_language []) (accept_language [] ∷ []) ≡ false }
+    ensures same { vary_matches (nominated_values_for_language (accept_language_line (codes "de") ∷ []))
+        (accept_language_line (codes "de") ∷ []) ≡ true }
+    ensures absent { vary_matches (nominated_values_for_language (accept_language_line (codes "de") ∷ [])) [] ≡ false }
+    ensures empty { vary_matches (nominated_values_for_language []) (accept_language_line [] ∷ []) ≡ false }
     ensures both_absent { vary_matches (nominated_values_for_language []) [] ≡ true }
-    ensures two_lines { vary_matches (nominated_values_for_language (accept_language (codes "de") ∷ []))
-        (accept_language (codes "de") ∷ accept_language (codes "en") ∷ [])
+    ensures two_lines { vary_matches (nominated_values_for_language (accept_language_line (codes "de") ∷ []))
+        (accept_language_line (codes "de") ∷ accept_language_line (codes "en") ∷ [])
         ≡ false }
     ensures twice { names_without_repeats (codes "a" ∷ codes "B" ∷ codes "A" ∷ codes "b" ∷ []) ≡ codes "a" ∷ codes "B" ∷ [] }
-    ensures no_vary { nomination_of [] (accept_language (codes "de") ∷ []) ≡ Nomination.Names [] }
+    ensures no_vary { nomination_of [] (accept_language_line (codes "de") ∷ []) ≡ Nomination.Names [] }
 {}
 
 /// A star among names, and a member that is no token.
 pub fn worked_vary_stars()
-    ensures star { vary_is_star (vary_fields (codes "Accept, *")) ≡ true }
-    ensures no_token { vary_is_star (vary_fields (codes "\"Accept\"")) ≡ true }
-    ensures names { vary_is_star (vary_fields (codes "Accept, *a")) ≡ false }
+    ensures star { vary_counts_as_star (vary_fields (codes "Accept, *")) ≡ true }
+    ensures no_token { vary_counts_as_star (vary_fields (codes "\"Accept\"")) ≡ true }
+    ensures names { vary_counts_as_star (vary_fields (codes "Accept, *a")) ≡ false }
 {}
 
 /// By up to 64 members of Vary a response varies. With more it counts as one with a star: over all lines together, also
@@ -97,16 +100,16 @@ pub fn worked_vary_stars()
 pub fn over_64_vary_names_count_as_star()
     ensures many { TooManyVaryNamesCountAsStar }
     ensures few { VaryNamesUpToMostAreCompared }
-    ensures at_the_bound { vary_is_star (vary_fields (value_of_repeated_members 64)) ≡ false }
-    ensures beyond_it { vary_is_star (vary_fields (value_of_repeated_members 65)) ≡ true }
-    ensures lines_at_the_bound { vary_is_star (vary_fields (value_of_repeated_members 33)
+    ensures at_the_bound { vary_counts_as_star (vary_fields (value_of_repeated_members 64)) ≡ false }
+    ensures beyond_it { vary_counts_as_star (vary_fields (value_of_repeated_members 65)) ≡ true }
+    ensures lines_at_the_bound { vary_counts_as_star (vary_fields (value_of_repeated_members 33)
         ++ vary_fields (value_of_repeated_members 31))
         ≡ false }
-    ensures lines_beyond_it { vary_is_star (vary_fields (value_of_repeated_members 33)
+    ensures lines_beyond_it { vary_counts_as_star (vary_fields (value_of_repeated_members 33)
         ++ vary_fields (value_of_repeated_members 32))
         ≡ true }
     ensures kept { nomination_of (vary_fields (value_of_repeated_members 64)) []
         ≡ Nomination.Names (record { name = codes "a"; value = None } ∷ []) }
-    ensures empty_ones { vary_is_star (vary_fields (value_of_repeated_members 64 ++ codes ",,,")) ≡ false }
-    ensures a_star_at_the_bound { vary_is_star (vary_fields (value_of_repeated_members 63 ++ codes "*")) ≡ true }
+    ensures empty_ones { vary_counts_as_star (vary_fields (value_of_repeated_members 64 ++ codes ",,,")) ≡ false }
+    ensures a_star_at_the_bound { vary_counts_as_star (vary_fields (value_of_repeated_members 63 ++ codes "*")) ≡ true }
 {}

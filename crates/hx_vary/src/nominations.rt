@@ -2,7 +2,7 @@
 
 ghost use Rattle.std.specs.Prelude.{◌≡◌, ◌++◌, map, IfOk};
 ghost use Rattle.std.specs.List.{list_any};
-ghost use Rattle.hx_vary.specs.Vary.{names_without_repeats, is_star_member, nominated_value, nominates_a_field};
+ghost use Rattle.hx_vary.specs.Vary.{names_without_repeats, is_star_member, nominated_value, nominates_any_field};
 ghost use Rattle.hx_vary.specs.Vary.{vary_matches};
 ghost use Rattle.hx_vary.specs.Vary.{compared_vary_names};
 ghost use Rattle.hx_vary.specs.Marks.{mark_of_values};
@@ -45,7 +45,7 @@ pub enum Nomination {
 }
 
 impl Nominated {
-    ghost use Rattle.hx_vary.specs.Vary.{nomination_of, nomination_with};
+    ghost use Rattle.hx_vary.specs.Vary.{nomination_of, nomination_with_further_names};
 
     /// What a response nominates of the request that it answers. Fails only where memory runs out.
     pub fn of(alloc: Global, response: &Fields, request: &Fields) -> Result<Nomination, AllocError>
@@ -66,7 +66,8 @@ impl Nominated {
         response: &Fields,
         request: &Fields,
     ) -> Result<Nomination, AllocError>
-        ensures { IfOk result (λ nomination. nomination ≡ nomination_with further.now response.now request.now) }
+        ensures { IfOk result
+            (λ nomination. nomination ≡ nomination_with_further_names further.now response.now request.now) }
     {
         let Some(names) = compared_vary_names(alloc, response)? else {
             return Ok(Nomination::Star);
@@ -96,8 +97,8 @@ impl Nominated {
     }
 
     /// Whether a field is nominated. No memory is taken.
-    pub fn nominates_a_field(&self) -> bool
-        ensures { result ≡ nominates_a_field self.now }
+    pub fn nominates_any_field(&self) -> bool
+        ensures { result ≡ nominates_any_field self.now }
     {
         !self.values.is_empty()
     }

@@ -3,11 +3,11 @@
 ghost use Rattle.std.specs.Prelude.{◌≡◌, nat_eq, IfOk, option_copied};
 ghost use Rattle.std.specs.BTreeMap.{get};
 ghost use Rattle.std.specs.HashSet.{contains};
-ghost use Rattle.hx_fields.specs.Folded.{folded, folded_cmp};
+ghost use Rattle.hx_fields.specs.Folded.{folded, folded_names_cmp};
 ghost use Rattle.hx_vary.specs.Combined.{values_match_all_nominated, EachValueHasItsTag, value_of_folded_name};
 ghost use Rattle.hx_vary.specs.Combined.{MapHasEachCombinedValue};
 ghost use Rattle.hx_vary.specs.Combined.{value_combined_with_line};
-ghost use Rattle.hx_vary.specs.Marks.{RequestValuesHaveTags, tag_may_match, mark_may_match};
+ghost use Rattle.hx_vary.specs.Marks.{RequestValuesHaveTags, vary_tag_may_match, mark_may_match};
 ghost use Rattle.hx_vary.specs.Vary.{is_same_value};
 
 use crate::marks::{VariantMark, value_tag};
@@ -64,7 +64,7 @@ fn value_combined_with_line(
         Some(before) => before
             .followed_by(alloc, b", ")?
             .followed_by(alloc, line.value()),
-        None => line.value_part(alloc, line.value().len()),
+        None => line.first_bytes_of_value(alloc, line.value().len()),
     }
 }
 
@@ -109,7 +109,7 @@ impl RequestValues {
     }
 
     fn may_be(&self, tag: u64) -> bool
-        ensures { result ≡ tag_may_match (contains nat_eq self.now.tags) tag }
+        ensures { result ≡ vary_tag_may_match (contains nat_eq self.now.tags) tag }
     {
         tag == 0 || self.tags.contains(&tag)
     }
@@ -130,14 +130,14 @@ impl RequestValues {
 
     /// Whether the value at a name is the one that was kept.
     fn has(&self, name: &FoldedName, kept: &NominatedValue) -> bool
-        ensures { result ≡ is_same_value kept.now.value (get folded_cmp self.now.values name.now) }
+        ensures { result ≡ is_same_value kept.now.value (get folded_names_cmp self.now.values name.now) }
     {
         is_same_value(slice_of_value(&kept.value), self.value(name))
     }
 
     /// The value at a name.
     pub(crate) fn value(&self, name: &FoldedName) -> Option<&[u8]>
-        ensures { option_copied result ≡ get folded_cmp self.now.values name.now }
+        ensures { option_copied result ≡ get folded_names_cmp self.now.values name.now }
     {
         match self.values.get(name) {
             Some(value) => Some(value.as_slice()),

@@ -8,12 +8,12 @@ use Rattle.proxy_check.specs.declared.meeting.TableVerdict.TheVariants.{Looped, 
 use Rattle.proxy_check.specs.declared.questions.Expected.{Expected}
 use Rattle.proxy_check.specs.declared.questions.Expected.TheVariants as expected
 
-abbrev pub table_verdict_of : Verdict → TableVerdict
-table_verdict_of (verdict.Allowed route) = Allowed route.number
-table_verdict_of (verdict.DeniedBy line) = DeniedBy line
-table_verdict_of verdict.NoLine = NoLine
-table_verdict_of (verdict.Looped line) = Looped line
-table_verdict_of (verdict.Purged line) = Purged line
+abbrev pub table_verdict_from_verdict : Verdict → TableVerdict
+table_verdict_from_verdict (verdict.Allowed route) = Allowed route.number
+table_verdict_from_verdict (verdict.DeniedBy line) = DeniedBy line
+table_verdict_from_verdict verdict.NoLine = NoLine
+table_verdict_from_verdict (verdict.Looped line) = Looped line
+table_verdict_from_verdict (verdict.Purged line) = Purged line
 
 -- a line denies it or refuses its loop, or none allows it
 abbrev pub is_denied : TableVerdict → Bool

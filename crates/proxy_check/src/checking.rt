@@ -1,15 +1,15 @@
 //! What `check` tells of a table that is read: how many lines it has, what in it has no effect, and what a request
 //! meets.
 
-use crate::meeting::{Question, TableVerdict, target_of, verdict_in_table};
+use crate::meeting::{RequestToCheck, TableVerdict, target_of, verdict_in_table};
 use crate::questions::stored_or_not_word;
-use crate::trial::{Trial, try_answer};
+use crate::trial::{AnswerTrial, try_origin_answer};
 use http::Method;
-use hx_allow::{Config, MOST_LINES, Verdict};
+use hx_allow::{MOST_LINES, Table, Verdict};
 use hx_fields::Bytes;
 use hx_policy::Policy;
 use hx_target::{Key, Target, TargetFault};
-use proxy_files::{CommandFault, print_store_memory};
+use proxy_files::{CommandFailure, print_store_memory};
 use std::alloc::AllocError;
 use std::rt::Files;
 use std::{io, str};
@@ -66,7 +66,7 @@ fn print_policy<R: Print>(rt: &R, policy: Policy) -> io::Result<()> {
     print_stale_while_revalidate(rt, policy)?;
     for word in [
         default_or_word(policy.stores_cookies, "set-cookie = \"not-stored\""),
-        default_or_word(!policy.removes_cookies, "set-cookie = \"removed\""),
+        default_or_word(!policy.removes_set_cookie, "set-cookie = \"removed\""),
         default_or_word(
             !withholds_from_set_cookie(policy),
             "an answer with Set-Cookie is given no lifetime",
@@ -106,7 +106,7 @@ fn print_names<R: Print>(rt: &R, key: &str, names: &[Bytes]) -> io::Result<()> {
 }
 
 /// Tells where a line refuses requests that loop.
-fn print_loops<R: Print>(rt: &R, config: &Config, line: u16) -> io::Result<()> {
+fn print_loops<R: Print>(rt: &R, config: &Table, line: u16) -> io::Result<()> {
     if config.refuses_loops(line) {
         println!(rt; "    loops = \"refused\"")?;
     }
@@ -116,7 +116,7 @@ fn print_loops<R: Print>(rt: &R, config: &Config, line: u16) -> io::Result<()> {
 /// Tells which line decides on a request, and what it says.
 fn print_verdict<R: Print>(
     rt: &R,
-    config: &Config,
+    config: &Table,
     text: &str,
     method: &Method,
     target: &Target,
@@ -146,7 +146,7 @@ fn print_verdict<R: Print>(
 }
 
 /// Tells the key of a request, by which a stored response is found, and where its scheme can't come.
-fn print_key<R: Print>(rt: &R, question: &Question<'_>, key: &Key) -> io::Result<()> {
+fn print_key<R: Print>(rt: &R, question: &RequestToCheck<'_>, key: &Key) -> io::Result<()> {
     let host = str::from_utf8(key.host.as_slice()).unwrap_or("-");
     let path = str::from_utf8(key.path_query.as_slice()).unwrap_or("-");
     println!(rt; "    key {host}:{}{path}", key.port)?;
@@ -161,36 +161,36 @@ fn print_key<R: Print>(rt: &R, question: &Question<'_>, key: &Key) -> io::Result
 /// Tells what becomes of an answer to a request, if that is allowed.
 fn print_tried<R: Print + AllocGlobal>(
     rt: &R,
-    config: &Config,
-    question: &Question<'_>,
-    trial: &Trial<'_>,
-) -> Result<(), CommandFault> {
+    config: &Table,
+    question: &RequestToCheck<'_>,
+    trial: &AnswerTrial<'_>,
+) -> Result<(), CommandFailure> {
     let TableVerdict::Allowed(_) = verdict_in_table(rt.alloc(), config, question)? else {
         return Ok(());
     };
-    let tried = try_answer(rt.alloc(), question, trial)?;
+    let tried = try_origin_answer(rt.alloc(), question, trial)?;
     let (reason, word) = (tried.reason.as_str(), stored_or_not_word(tried.is_stored));
     match println!(rt; "    with this answer: {word}, {reason}") {
         Ok(()) => Ok(()),
-        Err(_) => Err(CommandFault::Write(None)),
+        Err(_) => Err(CommandFailure::Write(None)),
     }
 }
 
 /// Tells what a request meets.
 fn print_answer<R: Print + AllocGlobal>(
     rt: &R,
-    config: &Config,
-    question: &Question<'_>,
-) -> Result<(), CommandFault> {
+    config: &Table,
+    question: &RequestToCheck<'_>,
+) -> Result<(), CommandFailure> {
     let Ok(method) = Method::from_bytes(rt.alloc(), question.method.as_bytes()) else {
-        return Err(CommandFault::Usage(None));
+        return Err(CommandFailure::Usage(None));
     };
     let shown = match target_of(rt.alloc(), question) {
         Ok(target) => match print_verdict(rt, config, question.text, &method, &target) {
             Ok(()) => print_key(rt, question, &target.key),
             Err(e) => Err(e),
         },
-        Err(TargetFault::OutOfMemory) => return Err(CommandFault::NoMemory),
+        Err(TargetFault::OutOfMemory) => return Err(CommandFailure::NoMemory),
         Err(fault) => println!(rt;
             "{} is refused before the table is asked: {fault}",
             question.text
@@ -198,14 +198,14 @@ fn print_answer<R: Print + AllocGlobal>(
     };
     match shown {
         Ok(()) => Ok(()),
-        Err(_) => Err(CommandFault::Write(None)),
+        Err(_) => Err(CommandFailure::Write(None)),
     }
 }
 
 /// Tells each line that is never reached, and a limit that has no effect.
-fn print_idle<R: Print>(rt: &R, config: &Config) -> io::Result<()> {
+fn print_idle<R: Print>(rt: &R, config: &Table) -> io::Result<()> {
     for line in 1..=MOST_LINES {
-        if let Some(first) = config.first_line_that_covers(line) {
+        if let Some(first) = config.first_line_that_covers_line(line) {
             println!(rt; "line {line} is never reached: line {first} takes all of it")?;
         }
     }
@@ -217,7 +217,7 @@ fn print_idle<R: Print>(rt: &R, config: &Config) -> io::Result<()> {
     Ok(())
 }
 
-fn print_table<R: Print + Files + AllocGlobal>(rt: &R, config: &Config) -> io::Result<()> {
+fn print_table<R: Print + Files + AllocGlobal>(rt: &R, config: &Table) -> io::Result<()> {
     println!(rt; "ok {} lines", config.lines())?;
     print_store_memory(rt, config)?;
     print_idle(rt, config)
@@ -226,13 +226,13 @@ fn print_table<R: Print + Files + AllocGlobal>(rt: &R, config: &Config) -> io::R
 /// Tells what a table says, and what a request meets where one is asked about, and an answer to it.
 pub fn print_check_of_table<R: Print + Files + AllocGlobal>(
     rt: &R,
-    config: &Config,
-    question: Option<&Question<'_>>,
-    trial: Option<&Trial<'_>>,
-) -> Result<(), CommandFault> {
+    config: &Table,
+    question: Option<&RequestToCheck<'_>>,
+    trial: Option<&AnswerTrial<'_>>,
+) -> Result<(), CommandFailure> {
     match print_table(rt, config) {
         Ok(()) => {}
-        Err(_) => return Err(CommandFault::Write(None)),
+        Err(_) => return Err(CommandFailure::Write(None)),
     }
     let Some(question) = question else {
         return Ok(());

@@ -1,10 +1,10 @@
 //! What a table would decide otherwise than another one, of the requests in a log.
 
-use crate::meeting::{Question, TableVerdict, question_of, verdict_in_table};
-use hx_allow::Config;
+use crate::meeting::{RequestToCheck, TableVerdict, parse_question, verdict_in_table};
+use hx_allow::Table;
 use hx_fields::Bytes;
 use hx_policy::Policy;
-use proxy_files::{CommandFault, fault_of, system_call_words};
+use proxy_files::{CommandFailure, fault_of, system_call_words};
 use std::alloc::Global;
 use std::collections::BTreeMap;
 use std::io::{BufRead, BufReader};
@@ -25,7 +25,7 @@ enum Way {
     Refused,
 }
 
-fn way_of(config: &Config, met: TableVerdict) -> Way {
+fn way_of(config: &Table, met: TableVerdict) -> Way {
     match met {
         TableVerdict::Allowed(line) => match config.origin_address(line) {
             Some(origin) => Way::To(origin, config.line_policy(line)),
@@ -57,7 +57,7 @@ struct Found {
 }
 
 /// The request of a line of the log: its third and fourth words, a method and a URL.
-fn question_of_line(line: &str) -> Option<Question<'_>> {
+fn question_of_line(line: &str) -> Option<RequestToCheck<'_>> {
     let (_moment, rest) = line.split_once(' ')?;
     let (_client, rest) = rest.split_once(' ')?;
     let (method, behind) = rest.split_once(' ')?;
@@ -67,18 +67,18 @@ fn question_of_line(line: &str) -> Option<Question<'_>> {
     if asked.contains('\\') {
         return None;
     }
-    question_of(asked)
+    parse_question(asked)
 }
 
 /// The two tables: the one that is checked, and the one that it is compared with.
 #[derive(Clone, Copy)]
 struct Tables<'a> {
-    new: &'a Config,
-    old: &'a Config,
+    new: &'a Table,
+    old: &'a Table,
 }
 
 /// The cookies whose requests go past the store, where they go on.
-fn session_cookies(config: &Config, met: TableVerdict) -> &[Bytes] {
+fn session_cookies(config: &Table, met: TableVerdict) -> &[Bytes] {
     match met {
         TableVerdict::Allowed(line) => config.session_cookies(line),
         _ => &[],
@@ -86,7 +86,7 @@ fn session_cookies(config: &Config, met: TableVerdict) -> &[Bytes] {
 }
 
 /// The fields that count as if the Vary of its answer named them.
-fn vary(config: &Config, met: TableVerdict) -> &[Bytes] {
+fn vary(config: &Table, met: TableVerdict) -> &[Bytes] {
     match met {
         TableVerdict::Allowed(line) => config.vary(line),
         _ => &[],
@@ -112,9 +112,9 @@ fn goes_alike(tables: Tables<'_>, new: TableVerdict, old: TableVerdict) -> bool 
 fn compare_question(
     alloc: Global,
     tables: Tables<'_>,
-    question: &Question<'_>,
+    question: &RequestToCheck<'_>,
     found: &mut Found,
-) -> Result<(), CommandFault> {
+) -> Result<(), CommandFailure> {
     let new = verdict_in_table(alloc, tables.new, question)?;
     let old = verdict_in_table(alloc, tables.old, question)?;
     if goes_alike(tables, new, old) {
@@ -127,7 +127,7 @@ fn compare_question(
     let first = String::from_str(alloc, question.text)?;
     match found.changes.insert((old, new), Change { count: 1, first }) {
         Ok(_) => Ok(()),
-        Err(_) => Err(CommandFault::NoMemory),
+        Err(_) => Err(CommandFailure::NoMemory),
     }
 }
 
@@ -137,7 +137,7 @@ fn compare_line(
     tables: Tables<'_>,
     line: &[u8],
     found: &mut Found,
-) -> Result<(), CommandFault> {
+) -> Result<(), CommandFailure> {
     found.asked = found.asked.saturating_add(1);
     let question = match str::from_utf8(line) {
         Ok(line) => question_of_line(line),
@@ -153,9 +153,9 @@ fn compare_line(
 }
 
 /// Why a log can't be read.
-fn log_fault(alloc: Global, path: &str, error: &io::Error) -> CommandFault {
+fn log_fault(alloc: Global, path: &str, error: &io::Error) -> CommandFailure {
     let words = system_call_words(alloc, "the log ", path, " can't be read", error);
-    fault_of(error, CommandFault::Read(words))
+    fault_of(error, CommandFailure::Read(words))
 }
 
 /// Compares what the requests of a log meet.
@@ -163,7 +163,7 @@ fn compare_log<R: Files + AllocGlobal>(
     rt: &R,
     tables: Tables<'_>,
     path: &str,
-) -> Result<Found, CommandFault> {
+) -> Result<Found, CommandFailure> {
     let alloc = rt.alloc();
     let mut found = Found {
         asked: 0,
@@ -175,7 +175,7 @@ fn compare_log<R: Files + AllocGlobal>(
         Err(e) => return Err(log_fault(alloc, path, &e)),
     };
     let Ok(mut reader) = BufReader::new(alloc, file) else {
-        return Err(CommandFault::NoMemory);
+        return Err(CommandFailure::NoMemory);
     };
     let mut line = Vec::new(alloc);
     for _ in 0..u64::MAX {
@@ -190,7 +190,7 @@ fn compare_log<R: Files + AllocGlobal>(
 }
 
 /// Tells what a request meets, and where it goes.
-fn print_met<R: Print>(rt: &R, word: &str, config: &Config, met: TableVerdict) -> io::Result<()> {
+fn print_met<R: Print>(rt: &R, word: &str, config: &Table, met: TableVerdict) -> io::Result<()> {
     match met {
         TableVerdict::Allowed(line) => println!(rt;
             "    {word} {met}, origin {}",
@@ -228,14 +228,14 @@ fn print_found<R: Print>(rt: &R, tables: Tables<'_>, found: &Found) -> io::Resul
 /// other words, or one of the tables denies them.
 pub fn print_comparison_of_tables<R: Print + Files + AllocGlobal>(
     rt: &R,
-    new: &Config,
-    old: &Config,
+    new: &Table,
+    old: &Table,
     log: &str,
-) -> Result<(), CommandFault> {
+) -> Result<(), CommandFailure> {
     let tables = Tables { new, old };
     let found = compare_log(rt, tables, log)?;
     match print_found(rt, tables, &found) {
         Ok(()) => Ok(()),
-        Err(_) => Err(CommandFault::Write(None)),
+        Err(_) => Err(CommandFailure::Write(None)),
     }
 }

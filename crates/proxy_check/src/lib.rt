@@ -10,6 +10,6 @@ mod trial;
 
 pub use crate::checking::print_check_of_table;
 pub use crate::comparing::print_comparison_of_tables;
-pub use crate::meeting::{Question, question_of};
-pub use crate::questions::ask_all;
-pub use crate::trial::{Trial, is_spelled_as_answer};
+pub use crate::meeting::{RequestToCheck, parse_question};
+pub use crate::questions::ask_all_questions;
+pub use crate::trial::{AnswerTrial, answer_has_only_field_lines};

@@ -1,19 +1,19 @@
 //! A request that is asked about, and what it meets in a table.
 ghost use Rattle.std.specs.Prelude.{◌≡◌};
-ghost use Rattle.proxy_check.specs.Meeting.{table_verdict_of};
+ghost use Rattle.proxy_check.specs.Meeting.{table_verdict_from_verdict};
 
 use http::Method;
-use hx_allow::{Config, Verdict};
+use hx_allow::{Table, Verdict};
 use hx_fields::{Bytes, Fields};
 use hx_target::{Target, TargetFault, read_target};
-use proxy_files::CommandFault;
+use proxy_files::CommandFailure;
 use std::alloc::Global;
 use std::fmt;
 use std::fmt::Formatter;
 
 /// A request that is asked about.
 #[derive(Clone, Copy)]
-pub struct Question<'a> {
+pub struct RequestToCheck<'a> {
     /// As it was typed: a method, a blank and a URL.
     pub text: &'a str,
     pub method: &'a str,
@@ -35,10 +35,10 @@ fn parts_of(url: &str) -> Option<(&str, &str)> {
 }
 
 /// What is asked about, or none where it is no method, blank and URL.
-pub fn question_of(text: &str) -> Option<Question<'_>> {
+pub fn parse_question(text: &str) -> Option<RequestToCheck<'_>> {
     let (method, url) = text.split_once(' ')?;
     let (host, path) = parts_of(url)?;
-    Some(Question {
+    Some(RequestToCheck {
         text,
         method,
         host,
@@ -46,7 +46,7 @@ pub fn question_of(text: &str) -> Option<Question<'_>> {
     })
 }
 
-impl<'a> Question<'a> {
+impl<'a> RequestToCheck<'a> {
     /// Whether its URL is one of https.
     pub(crate) fn is_secure(&self) -> bool {
         match self.text.split_once(' ') {
@@ -56,7 +56,10 @@ impl<'a> Question<'a> {
     }
 }
 
-pub(crate) fn target_of(alloc: Global, question: &Question<'_>) -> Result<Target, TargetFault> {
+pub(crate) fn target_of(
+    alloc: Global,
+    question: &RequestToCheck<'_>,
+) -> Result<Target, TargetFault> {
     let mut fields = Fields::new(alloc);
     fields.push(b"Host", question.host.as_bytes())?;
     let target = Bytes::copy_of(alloc, question.path.as_bytes())?;
@@ -83,7 +86,7 @@ pub(crate) enum TableVerdict {
 impl TableVerdict {
     /// By what the table says.
     pub(crate) fn by(verdict: Verdict) -> TableVerdict
-        ensures { result ≡ table_verdict_of verdict }
+        ensures { result ≡ table_verdict_from_verdict verdict }
     {
         match verdict {
             Verdict::Allowed(route) => TableVerdict::Allowed(route.number),
@@ -111,15 +114,15 @@ impl fmt::Display for TableVerdict {
 /// What a request meets in a table. Fails where it has no method, or for want of memory.
 pub(crate) fn verdict_in_table(
     alloc: Global,
-    config: &Config,
-    question: &Question<'_>,
-) -> Result<TableVerdict, CommandFault> {
+    config: &Table,
+    question: &RequestToCheck<'_>,
+) -> Result<TableVerdict, CommandFailure> {
     let Ok(method) = Method::from_bytes(alloc, question.method.as_bytes()) else {
         return Ok(TableVerdict::Refused);
     };
     match target_of(alloc, question) {
         Ok(target) => Ok(TableVerdict::by(config.judge_target(&method, &target))),
-        Err(TargetFault::OutOfMemory) => Err(CommandFault::NoMemory),
+        Err(TargetFault::OutOfMemory) => Err(CommandFailure::NoMemory),
         Err(_) => Ok(TableVerdict::Refused),
     }
 }

@@ -6,10 +6,10 @@
 ghost use Rattle.std.specs.Prelude.{◌≡◌};
 ghost use Rattle.proxy_check.specs.Meeting.{expectation_is_met};
 
-use crate::meeting::{Question, TableVerdict, question_of, verdict_in_table};
-use crate::trial::{Trial, is_spelled_as_answer, try_answer};
-use hx_allow::Config;
-use proxy_files::CommandFault;
+use crate::meeting::{RequestToCheck, TableVerdict, parse_question, verdict_in_table};
+use crate::trial::{AnswerTrial, answer_has_only_field_lines, try_origin_answer};
+use hx_allow::Table;
+use proxy_files::CommandFailure;
 use std::alloc::Global;
 
 /// What is expected of a request.
@@ -80,17 +80,17 @@ pub(crate) fn stored_or_not_word(is_stored: bool) -> &'static str {
 }
 
 /// A line of questions that is none.
-fn question_fault(alloc: Global, number: usize, line: &str) -> CommandFault {
+fn question_fault(alloc: Global, number: usize, line: &str) -> CommandFailure {
     let words = format!(in alloc;
         "line {number} of the questions, '{line}', is none: a method, a blank, a URL, => and what is expected, as in 'GET http://h.example/a => line 3'"
     );
-    CommandFault::Read(words.ok())
+    CommandFailure::Read(words.ok())
 }
 
 /// A question and what is expected of it.
-fn test_of(line: &str) -> Option<(Question<'_>, Wanted)> {
+fn test_of(line: &str) -> Option<(RequestToCheck<'_>, Wanted)> {
     let (asked, wanted) = line.split_once("=>")?;
-    Some((question_of(asked.trim())?, Wanted::of(wanted.trim())?))
+    Some((parse_question(asked.trim())?, Wanted::of(wanted.trim())?))
 }
 
 /// What was asked, and how often it was answered otherwise.
@@ -105,7 +105,7 @@ fn met_otherwise(
     alloc: Global,
     met: TableVerdict,
     expected: Expected,
-) -> Result<Option<String>, CommandFault> {
+) -> Result<Option<String>, CommandFailure> {
     if expected.is_met(met) {
         return Ok(None);
     }
@@ -116,14 +116,14 @@ fn met_otherwise(
 fn stored_otherwise(
     alloc: Global,
     met: TableVerdict,
-    question: &Question<'_>,
-    trial: &Trial<'_>,
+    question: &RequestToCheck<'_>,
+    trial: &AnswerTrial<'_>,
     wanted: bool,
-) -> Result<Option<String>, CommandFault> {
+) -> Result<Option<String>, CommandFailure> {
     let TableVerdict::Allowed(_) = met else {
         return Ok(Some(format!(in alloc; "{met}")?));
     };
-    let tried = try_answer(alloc, question, trial)?;
+    let tried = try_origin_answer(alloc, question, trial)?;
     if tried.is_stored == wanted {
         return Ok(None);
     }
@@ -134,12 +134,12 @@ fn stored_otherwise(
 /// Asks what a line of the questions asks, and tells where the answer isn't the one that is expected.
 fn ask_line<R: Print + AllocGlobal>(
     rt: &R,
-    config: &Config,
+    config: &Table,
     number: usize,
     line: &str,
-    trial: &Trial<'_>,
+    trial: &AnswerTrial<'_>,
     tally: &mut Tally,
-) -> Result<(), CommandFault> {
+) -> Result<(), CommandFailure> {
     let alloc = rt.alloc();
     let Some((question, wanted)) = test_of(line) else {
         return Err(question_fault(alloc, number, line));
@@ -157,18 +157,18 @@ fn ask_line<R: Print + AllocGlobal>(
     let otherwise = otherwise.as_str();
     match println!(rt; "line {number}: {line}: it is {otherwise}") {
         Ok(()) => Ok(()),
-        Err(_) => Err(CommandFault::Write(None)),
+        Err(_) => Err(CommandFailure::Write(None)),
     }
 }
 
 /// Asks all of a file's questions, and tells each answer that isn't the one that is expected. Fails where there is one.
 /// An origin's answer is that of the trial, until a line says another one.
-pub fn ask_all<R: Print + AllocGlobal>(
+pub fn ask_all_questions<R: Print + AllocGlobal>(
     rt: &R,
-    config: &Config,
+    config: &Table,
     text: &str,
-    trial: &Trial<'_>,
-) -> Result<(), CommandFault> {
+    trial: &AnswerTrial<'_>,
+) -> Result<(), CommandFailure> {
     let mut answer = String::from_str(rt.alloc(), trial.answer)?;
     let mut tally = Tally {
         asked: 0,
@@ -181,12 +181,12 @@ pub fn ask_all<R: Print + AllocGlobal>(
             continue;
         }
         match line.strip_prefix("answer:") {
-            Some(told) if is_spelled_as_answer(told.trim()) => {
+            Some(told) if answer_has_only_field_lines(told.trim()) => {
                 answer = String::from_str(rt.alloc(), told.trim())?;
             }
             Some(_) => return Err(question_fault(rt.alloc(), number, line)),
             None => {
-                let by = Trial {
+                let by = AnswerTrial {
                     table: trial.table,
                     now: trial.now,
                     answer: answer.as_str(),
@@ -197,11 +197,11 @@ pub fn ask_all<R: Print + AllocGlobal>(
     }
     let Tally { asked, differ } = tally;
     if println!(rt; "{asked} questions, {differ} answered otherwise").is_err() {
-        return Err(CommandFault::Write(None));
+        return Err(CommandFailure::Write(None));
     }
     if differ == 0 {
         Ok(())
     } else {
-        Err(CommandFault::Answers)
+        Err(CommandFailure::Answers)
     }
 }

@@ -2,15 +2,15 @@
 //! answer is played by the table, as standard input's is, and what Cache-Status says of it is told.
 ghost use Rattle.std.specs.Prelude.{◌≡◌};
 
-use crate::meeting::Question;
-use proxy_files::CommandFault;
+use crate::meeting::RequestToCheck;
+use proxy_files::CommandFailure;
 use proxy_replay::{ReplayFault, replayed};
 use std::alloc::{AllocError, Global};
 use std::str;
 
 /// What is tried: an answer by a table, at a moment in Unix seconds.
 #[derive(Clone, Copy)]
-pub struct Trial<'a> {
+pub struct AnswerTrial<'a> {
     pub table: &'a [u8],
     pub now: u64,
     /// A status, 200 where there is none, and lines of a head, with `|` between them.
@@ -35,7 +35,7 @@ fn status_and_lines(answer: &str) -> (u16, &str) {
 }
 
 /// Whether an answer is spelled as one: each of its lines is a name, a colon and a value.
-pub fn is_spelled_as_answer(answer: &str) -> bool {
+pub fn answer_has_only_field_lines(answer: &str) -> bool {
     let (status, lines) = status_and_lines(answer);
     if !(200..=599).contains(&status) {
         return false;
@@ -64,8 +64,8 @@ fn answer_text(alloc: Global, answer: &str) -> Result<String, AllocError> {
 /// The script: the table, the request, and the answer on the first link.
 fn script_of(
     alloc: Global,
-    question: &Question<'_>,
-    trial: &Trial<'_>,
+    question: &RequestToCheck<'_>,
+    trial: &AnswerTrial<'_>,
 ) -> Result<Vec<u8>, AllocError> {
     let (method, path, host) = (question.method, question.path, question.host);
     let request = format!(in alloc; "{method} {path} HTTP/1.1\r\nHost: {host}\r\n\r\n")?;
@@ -104,13 +104,13 @@ fn reason_in(alloc: Global, effects: &str) -> Result<String, AllocError> {
 }
 
 /// The effects of a script; none where it has a fault.
-fn effects_of(alloc: Global, script: &[u8]) -> Result<Vec<u8>, CommandFault> {
+fn effects_of(alloc: Global, script: &[u8]) -> Result<Vec<u8>, CommandFailure> {
     match replayed(alloc, script) {
         Ok(effects) => Ok(effects),
         Err(fault) => {
             let is_memory = matches!(&fault, ReplayFault::OutOfMemory);
             if is_memory {
-                return Err(CommandFault::NoMemory);
+                return Err(CommandFailure::NoMemory);
             }
             Ok(Vec::new(alloc))
         }
@@ -119,11 +119,11 @@ fn effects_of(alloc: Global, script: &[u8]) -> Result<Vec<u8>, CommandFault> {
 
 /// Tries an answer to a request that the table allows. Where the request isn't such a one, or goes to no origin, the
 /// fault of the script is its reason.
-pub(crate) fn try_answer(
+pub(crate) fn try_origin_answer(
     alloc: Global,
-    question: &Question<'_>,
-    trial: &Trial<'_>,
-) -> Result<TrialResult, CommandFault> {
+    question: &RequestToCheck<'_>,
+    trial: &AnswerTrial<'_>,
+) -> Result<TrialResult, CommandFailure> {
     let script = script_of(alloc, question, trial)?;
     let effects = effects_of(alloc, script.as_slice())?;
     let reason = reason_in(alloc, str::from_utf8(effects.as_slice()).unwrap_or(""))?;

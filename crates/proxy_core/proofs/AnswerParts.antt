@@ -11,8 +11,8 @@ use Rattle.hx_storable.specs.declared.rule.StoreRule.{StoreRule}
 use Rattle.hx_validate.specs.Ranges.{fields_of_416_to_answer, fields_of_206}
 use Rattle.hx_validate.specs.Room.{head_leaves_room}
 use Rattle.hx_validate.specs.declared.ranges.RangeAnswer.TheVariants.{Part, Unsatisfiable}
-use Rattle.proxy_core.specs.Abouts.{about_answer_in_range, about_in_place_of_answer, about_answer_passed_whole}
-use Rattle.proxy_core.specs.Replies.{answer_in_range_text, content_unless_head, fields_in_place_of_answer, fields_of_answer_416, fields_of_partial_answer, is_head, text_in_place_of_answer, whole_answer_text}
+use Rattle.proxy_core.specs.Abouts.{report_of_answer_cut_to_range, report_in_place_of_answer, report_of_answer_passed_whole}
+use Rattle.proxy_core.specs.Replies.{text_of_answer_or_its_range, content_unless_head, fields_in_place_of_answer, fields_of_answer_416, fields_of_partial_answer, is_head, text_in_place_of_answer, whole_answer_text}
 use Rattle.proxy_core.specs.declared.open.exchange.Exchange.{Exchange}
 
 module _ (policy : Policy) (name : List ℕ) (x : Exchange) (r : Response) (h : Answered) (now : ℕ) (stored : Bool) (rule : Option StoreRule) (same : h ≡ answered_of r now) (lines own : List Field) (laid : lines ≡ fields_in_place_of_answer policy name x h.status h.fields now stored rule own) (room : head_leaves_room own ≡ true) where
@@ -34,7 +34,7 @@ module _ (policy : Policy) (name : List ℕ) (x : Exchange) (r : Response) (h : 
   has_room made is = sym (ap head_leaves_room (is ∙ ap made same)) ∙ room
 
   pub part_in_place : (first last : ℕ) (content : List ℕ) → content ≡ r.content → own ≡ fields_of_206 h.fields first last (length content)
-      → sent 206 (slice_range content first (last + 1)) ≡ answer_in_range_text policy name x r now stored rule (Part first last)
+      → sent 206 (slice_range content first (last + 1)) ≡ text_of_answer_or_its_range policy name x r now stored rule (Part first last)
   part_in_place first last content whole is =
       let made : (Answered → List Field) = λ g. fields_of_206 g.fields first last (length r.content) in
       let made_is : own ≡ made h = is ∙ ap (λ (c : List ℕ). fields_of_206 h.fields first last (length c)) whole in
@@ -43,24 +43,24 @@ module _ (policy : Policy) (name : List ℕ) (x : Exchange) (r : Response) (h : 
       ∙ sym (ap (λ b. cond b (text_in_place_of_answer policy name x r now stored rule 206 (fields_of_partial_answer r now first last) (slice_range r.content first (last + 1))) (whole_answer_text policy name x r now stored rule)) (has_room made made_is)))
 
   pub unsatisfied_in_place : (total : ℕ) → total ≡ length r.content → own ≡ fields_of_416_to_answer h.fields total
-      → sent 416 [] ≡ answer_in_range_text policy name x r now stored rule Unsatisfiable
+      → sent 416 [] ≡ text_of_answer_or_its_range policy name x r now stored rule Unsatisfiable
   unsatisfied_in_place total whole is =
       let made : (Answered → List Field) = λ g. fields_of_416_to_answer g.fields (length r.content) in
       let made_is : own ≡ made h = is ∙ ap (fields_of_416_to_answer h.fields) whole in
       in_place 416 [] made made_is
       ∙ sym (ap (λ b. cond b (text_in_place_of_answer policy name x r now stored rule 416 (fields_of_answer_416 r now) []) (whole_answer_text policy name x r now stored rule)) (has_room made made_is))
 
-  pub about_part_in_place : (first last : ℕ) (content : List ℕ) → content ≡ r.content → own ≡ fields_of_206 h.fields first last (length content)
-      → about_in_place_of_answer policy x r now stored rule 206 (content_unless_head (is_head x.asked) (slice_range content first (last + 1))) ≡ about_answer_in_range policy x r now stored rule (Part first last)
-  about_part_in_place first last content whole is =
+  pub report_of_part_in_place : (first last : ℕ) (content : List ℕ) → content ≡ r.content → own ≡ fields_of_206 h.fields first last (length content)
+      → report_in_place_of_answer policy x r now stored rule 206 (content_unless_head (is_head x.asked) (slice_range content first (last + 1))) ≡ report_of_answer_cut_to_range policy x r now stored rule (Part first last)
+  report_of_part_in_place first last content whole is =
       let made : (Answered → List Field) = λ g. fields_of_206 g.fields first last (length r.content) in
       let made_is : own ≡ made h = is ∙ ap (λ (c : List ℕ). fields_of_206 h.fields first last (length c)) whole in
-      ap (λ (c : List ℕ). about_in_place_of_answer policy x r now stored rule 206 (content_unless_head (is_head x.asked) (slice_range c first (last + 1)))) whole
-      ∙ sym (ap (λ b. cond b (about_in_place_of_answer policy x r now stored rule 206 (content_unless_head (is_head x.asked) (slice_range r.content first (last + 1)))) (about_answer_passed_whole policy x r now stored rule)) (has_room made made_is))
+      ap (λ (c : List ℕ). report_in_place_of_answer policy x r now stored rule 206 (content_unless_head (is_head x.asked) (slice_range c first (last + 1)))) whole
+      ∙ sym (ap (λ b. cond b (report_in_place_of_answer policy x r now stored rule 206 (content_unless_head (is_head x.asked) (slice_range r.content first (last + 1)))) (report_of_answer_passed_whole policy x r now stored rule)) (has_room made made_is))
 
-  pub about_unsatisfied_in_place : (total : ℕ) → total ≡ length r.content → own ≡ fields_of_416_to_answer h.fields total
-      → about_in_place_of_answer policy x r now stored rule 416 (content_unless_head (is_head x.asked) []) ≡ about_answer_in_range policy x r now stored rule Unsatisfiable
-  about_unsatisfied_in_place total whole is =
+  pub report_of_unsatisfied_in_place : (total : ℕ) → total ≡ length r.content → own ≡ fields_of_416_to_answer h.fields total
+      → report_in_place_of_answer policy x r now stored rule 416 (content_unless_head (is_head x.asked) []) ≡ report_of_answer_cut_to_range policy x r now stored rule Unsatisfiable
+  report_of_unsatisfied_in_place total whole is =
       let made : (Answered → List Field) = λ g. fields_of_416_to_answer g.fields (length r.content) in
       let made_is : own ≡ made h = is ∙ ap (fields_of_416_to_answer h.fields) whole in
-      sym (ap (λ b. cond b (about_in_place_of_answer policy x r now stored rule 416 (content_unless_head (is_head x.asked) [])) (about_answer_passed_whole policy x r now stored rule)) (has_room made made_is))
+      sym (ap (λ b. cond b (report_in_place_of_answer policy x r now stored rule 416 (content_unless_head (is_head x.asked) [])) (report_of_answer_passed_whole policy x r now stored rule)) (has_room made made_is))

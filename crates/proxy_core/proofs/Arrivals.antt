@@ -19,9 +19,9 @@ use Rattle.proxy_core.specs.Outcomes.{find_exchange}
 use Rattle.std.specs.Prelude.{filter}
 use Rattle.hx_reuse.specs.declared.rule.ReuseRule.{ReuseRule}
 use Rattle.proxy_core.specs.declared.steps.condition.Condition.{Condition}
-use Rattle.proxy_core.specs.State.{exchange_gone_forward, exchange_forwarded_again, exchange_sent_forward}
+use Rattle.proxy_core.specs.State.{exchange_gone_forward, exchange_after_second_forward, exchange_sent_forward_if_of_id}
 use Rattle.proxy_core.proofs.ExchangeLists.{cond_none, nones, swap, not_both, found-id}
-use Rattle.proxy_core.specs.Arrivals.{arrival_number_of_id, map_exchanges, HaveDistinctArrivalsAndIds, IsIdIndexOf}
+use Rattle.proxy_core.specs.Arrivals.{arrival_number_of_id, exchanges_each_changed, HaveDistinctArrivalsAndIds, IsIdIndexOf}
 
 abbrev Numbered : Type 0
 Numbered = List (ℕ × Exchange)
@@ -222,41 +222,41 @@ indexed_closed id n es f g s h w =
 
 -- ---- changing exchanges that keep their ids
 
-pub values_on_all : (f : Exchange → Exchange) (es : Numbered) → values_of (map_exchanges f es) ≡ map f (values_of es)
+pub values_on_all : (f : Exchange → Exchange) (es : Numbered) → values_of (exchanges_each_changed f es) ≡ map f (values_of es)
 values_on_all f [] = refl
 values_on_all f (e ∷ es) = ap (λ (xs : List Exchange). f e.1 ∷ xs) (values_on_all f es)
 
-number_on_all : (f : Exchange → Exchange) (n : ℕ) (es : Numbered) → lookup (at n) es ≡ None → lookup (at n) (map_exchanges f es) ≡ None
+number_on_all : (f : Exchange → Exchange) (n : ℕ) (es : Numbered) → lookup (at n) es ≡ None → lookup (at n) (exchanges_each_changed f es) ≡ None
 number_on_all f n [] h = refl
 number_on_all f n (e ∷ es) h =
     let p = cond_none (at n e.0) e.1 (lookup (at n) es) h in
-    ap (λ b. cond b (Some (f e.1)) (lookup (at n) (map_exchanges f es))) p.0 ∙ number_on_all f n es p.1
+    ap (λ b. cond b (Some (f e.1)) (lookup (at n) (exchanges_each_changed f es))) p.0 ∙ number_on_all f n es p.1
 
 module _ (f : Exchange → Exchange) (keeps : (x : Exchange) → (f x).id ≡ x.id) where
-  arrival_on_all : (id : ℕ) (es : Numbered) → arrival_number_of_id id (map_exchanges f es) ≡ arrival_number_of_id id es
+  arrival_on_all : (id : ℕ) (es : Numbered) → arrival_number_of_id id (exchanges_each_changed f es) ≡ arrival_number_of_id id es
   arrival_on_all id [] = refl
   arrival_on_all id (e ∷ es) =
-      ap (λ i. cond (eqb i id) (Some e.0) (arrival_number_of_id id (map_exchanges f es))) (keeps e.1)
+      ap (λ i. cond (eqb i id) (Some e.0) (arrival_number_of_id id (exchanges_each_changed f es))) (keeps e.1)
       ∙ ap (λ (o : Option ℕ). cond (eqb e.1.id id) (Some e.0) o) (arrival_on_all id es)
 
-  apart_on_all : (es : Numbered) → HaveDistinctArrivalsAndIds es → HaveDistinctArrivalsAndIds (map_exchanges f es)
+  apart_on_all : (es : Numbered) → HaveDistinctArrivalsAndIds es → HaveDistinctArrivalsAndIds (exchanges_each_changed f es)
   apart_on_all [] a = a
   apart_on_all (e ∷ es) a =
-      (number_on_all f e.0 es a.0, ap (λ i. arrival_number_of_id i (map_exchanges f es)) (keeps e.1) ∙ (arrival_on_all e.1.id es ∙ a.1), apart_on_all es a.2)
+      (number_on_all f e.0 es a.0, ap (λ i. arrival_number_of_id i (exchanges_each_changed f es)) (keeps e.1) ∙ (arrival_on_all e.1.id es ∙ a.1), apart_on_all es a.2)
 
-  pub indexed_on_all : (es : Numbered) (g : ℕ → Option ℕ) → IsIdIndexOf es g → IsIdIndexOf (map_exchanges f es) g
+  pub indexed_on_all : (es : Numbered) (g : ℕ → Option ℕ) → IsIdIndexOf es g → IsIdIndexOf (exchanges_each_changed f es) g
   indexed_on_all es g s = record { apart = apart_on_all es s.apart; indexed = λ q. s.indexed q ∙ sym (arrival_on_all q es) }
 
 -- a change of none but an exchange of this id
 module _ (id : ℕ) (f : Exchange → Exchange) (others : (x : Exchange) → eqb x.id id ≡ false → f x ≡ x) where
-  pub same_all : (es : Numbered) → arrival_number_of_id id es ≡ None → map_exchanges f es ≡ es
+  pub same_all : (es : Numbered) → arrival_number_of_id id es ≡ None → exchanges_each_changed f es ≡ es
   same_all [] h = refl
   same_all (e ∷ es) h =
       let p = cond_none (eqb e.1.id id) e.0 (arrival_number_of_id id es) h in
-      ap (λ (x : Exchange). (e.0, x) ∷ map_exchanges f es) (others e.1 p.0) ∙ ap (λ (xs : Numbered). e ∷ xs) (same_all es p.1)
+      ap (λ (x : Exchange). (e.0, x) ∷ exchanges_each_changed f es) (others e.1 p.0) ∙ ap (λ (xs : Numbered). e ∷ xs) (same_all es p.1)
 
   -- it is written at the arrival of the id
-  pub written : (n : ℕ) (es : Numbered) (x : Exchange) → HaveDistinctArrivalsAndIds es → arrival_number_of_id id es ≡ Some n → lookup (at n) es ≡ Some x → set_value (at n) es (f x) ≡ map_exchanges f es
+  pub written : (n : ℕ) (es : Numbered) (x : Exchange) → HaveDistinctArrivalsAndIds es → arrival_number_of_id id es ≡ Some n → lookup (at n) es ≡ Some x → set_value (at n) es (f x) ≡ exchanges_each_changed f es
   written n [] x a h here = absurd (cc)
   written n (e ∷ es) x a h here = elim (cases_Bool (eqb e.1.id id)) [
     | inl t ↦ (
@@ -273,34 +273,34 @@ module _ (id : ℕ) (f : Exchange → Exchange) (others : (x : Exchange) → eqb
         let later : at n e.0 ≡ false = not_first id n e es a.0 k in
         ap (λ b. cond b ((e.0, f x) ∷ es) (e ∷ set_value (at n) es (f x))) later
         ∙ ap (λ (xs : Numbered). e ∷ xs) (written n es x a.2 k (sym (ap (λ b. cond b (Some e.1) (lookup (at n) es)) later) ∙ here))
-        ∙ ap (λ (y : Exchange). (e.0, y) ∷ map_exchanges f es) (sym (others e.1 n'))
+        ∙ ap (λ (y : Exchange). (e.0, y) ∷ exchanges_each_changed f es) (sym (others e.1 n'))
         )
   ]
 
-pub gone_out-others : (id now : ℕ) (x : Exchange) → eqb x.id id ≡ false → exchange_forwarded_again id now x ≡ x
+pub gone_out-others : (id now : ℕ) (x : Exchange) → eqb x.id id ≡ false → exchange_after_second_forward id now x ≡ x
 gone_out-others id now x h = ap (λ b. cond b (exchange_gone_forward now x.rule x.named None x) x) h
 
-pub sent_out-others : (id now : ℕ) (rule : ReuseRule) (named : Option ℕ) (condition : Option Condition) (x : Exchange) → eqb x.id id ≡ false → exchange_sent_forward id now rule named condition x ≡ x
+pub sent_out-others : (id now : ℕ) (rule : ReuseRule) (named : Option ℕ) (condition : Option Condition) (x : Exchange) → eqb x.id id ≡ false → exchange_sent_forward_if_of_id id now rule named condition x ≡ x
 sent_out-others id now rule named condition x h = ap (λ b. cond b (exchange_gone_forward now rule named condition x) x) h
 
 -- one goes forward at the arrival of its id
 pub sent_written : (id now : ℕ) (rule : ReuseRule) (named : Option ℕ) (condition : Option Condition) (n : ℕ) (x y : Exchange) (es : Numbered) (arrivals : ℕ → Option ℕ) → IsIdIndexOf es arrivals →
-    Some n ≡ arrivals id → Some x ≡ lookup (at n) es → y ≡ exchange_gone_forward now rule named condition x → set_value (at n) es y ≡ map_exchanges (exchange_sent_forward id now rule named condition) es
+    Some n ≡ arrivals id → Some x ≡ lookup (at n) es → y ≡ exchange_gone_forward now rule named condition x → set_value (at n) es y ≡ exchanges_each_changed (exchange_sent_forward_if_of_id id now rule named condition) es
 sent_written id now rule named condition n x y es arrivals s h there e =
     let here : arrival_number_of_id id es ≡ Some n = sym (s.indexed id) ∙ sym h in
     let is : find_exchange id (values_of es) ≡ Some x = sym (found id n es s.apart here) ∙ sym there in
-    let same : y ≡ exchange_sent_forward id now rule named condition x = e ∙ sym (ap (λ b. cond b (exchange_gone_forward now rule named condition x) x) (found-id id (values_of es) x is)) in
+    let same : y ≡ exchange_sent_forward_if_of_id id now rule named condition x = e ∙ sym (ap (λ b. cond b (exchange_gone_forward now rule named condition x) x) (found-id id (values_of es) x is)) in
     ap (λ (z : Exchange). set_value (at n) es z) same
-    ∙ written id (exchange_sent_forward id now rule named condition) (sent_out-others id now rule named condition) n es x s.apart here (sym there)
+    ∙ written id (exchange_sent_forward_if_of_id id now rule named condition) (sent_out-others id now rule named condition) n es x s.apart here (sym there)
 
 pub gone_written : (id now n : ℕ) (x y : Exchange) (es : Numbered) (arrivals : ℕ → Option ℕ) → IsIdIndexOf es arrivals →
-    Some n ≡ arrivals id → Some x ≡ lookup (at n) es → y ≡ exchange_gone_forward now x.rule x.named None x → set_value (at n) es y ≡ map_exchanges (exchange_forwarded_again id now) es
+    Some n ≡ arrivals id → Some x ≡ lookup (at n) es → y ≡ exchange_gone_forward now x.rule x.named None x → set_value (at n) es y ≡ exchanges_each_changed (exchange_after_second_forward id now) es
 gone_written id now n x y es arrivals s h there e =
     let here : arrival_number_of_id id es ≡ Some n = sym (s.indexed id) ∙ sym h in
     let is : find_exchange id (values_of es) ≡ Some x = sym (found id n es s.apart here) ∙ sym there in
-    let same : y ≡ exchange_forwarded_again id now x = e ∙ sym (ap (λ b. cond b (exchange_gone_forward now x.rule x.named None x) x) (found-id id (values_of es) x is)) in
+    let same : y ≡ exchange_after_second_forward id now x = e ∙ sym (ap (λ b. cond b (exchange_gone_forward now x.rule x.named None x) x) (found-id id (values_of es) x is)) in
     ap (λ (z : Exchange). set_value (at n) es z) same
-    ∙ written id (exchange_forwarded_again id now) (gone_out-others id now) n es x s.apart here (sym there)
+    ∙ written id (exchange_after_second_forward id now) (gone_out-others id now) n es x s.apart here (sym there)
 
 -- ---- opening
 

@@ -14,16 +14,16 @@ use Rattle.hx_target.specs.declared.keys.Key.{Key}
 use Rattle.hx_target.specs.Keys.{same_key}
 use Rattle.proxy_core.specs.declared.open.exchange.Exchange.{Exchange}
 use Rattle.proxy_core.specs.declared.open.arrivals_by_key.ArrivalsByKey.{ArrivalsByKey}
-use Rattle.proxy_core.specs.declared.open.key_index.KeyIndex.{KeyIndex}
+use Rattle.proxy_core.specs.declared.open.key_index.ArrivalKeyIndex.{ArrivalKeyIndex}
 use Rattle.hx_hop.specs.declared.request_view.Asked.{Asked}
 use Rattle.proxy_core.specs.declared.open.stage.Stage.{Stage}
 use Rattle.proxy_core.specs.declared.open.stage.Stage.TheVariants.{Forwarded, Waiting, Released}
-use Rattle.proxy_core.specs.Leading.{is_get, is_forwarded, waits_for, exchange_asks_for_awaited, answer_may_serve, is_leader_for_request, leader}
+use Rattle.proxy_core.specs.Leading.{is_get, is_forwarded, waits_for, exchange_went_forward_for_awaited, answer_may_serve, is_leader_for_request, leader}
 use Rattle.proxy_core.specs.declared.open.awaited.Awaited.{Awaited}
 use Rattle.proxy_core.specs.Scopes.{Scope, key_is_in_scope}
-use Rattle.proxy_core.specs.State.{released_exchange, overtaken_exchange}
-use Rattle.proxy_core.specs.Arrivals.{HaveDistinctArrivalsAndIds, SelectedArrivalsPassTest, WaitingArrivalsPassTest, IsExactIndexOfSelected, map_exchanges}
-use Rattle.proxy_core.specs.ByKey.{is_get_at_origin_for_key, is_get_not_at_origin_for_key, is_for_key_but_no_get_at_origin, ArrivalIsMovedToOrigin, is_in_key_index, ArrivalsOfGetsAtOriginPassTest, ArrivalIsAddedIfSelected, ArrivalIsRemovedIfSelected, KeyIndexesHaveSameMembers, ArrivalIsNotInKeyIndex, ArrivalIsAddedToItsKeyIndex, ArrivalIsRemovedFromItsKeyIndex, ArrivalsByKeyAreUnchanged, ArrivalIsInNeitherKeyIndex, ArrivalsByKeyAreExact}
+use Rattle.proxy_core.specs.State.{exchange_released_from_leader, exchange_overtaken_if_in_scope}
+use Rattle.proxy_core.specs.Arrivals.{HaveDistinctArrivalsAndIds, SelectedArrivalsPassTest, WaitingArrivalsPassTest, IsExactIndexOfSelected, exchanges_each_changed}
+use Rattle.proxy_core.specs.ByKey.{is_get_at_origin_for_key, is_get_for_key_not_at_origin, is_for_key_but_no_get_at_origin, ArrivalIsMovedToOrigin, arrival_is_in_key_index, ArrivalsOfGetsAtOriginPassTest, ArrivalIsAddedIfSelected, ArrivalIsRemovedIfSelected, KeyIndexesHaveSameMembers, ArrivalIsNotInKeyIndex, ArrivalIsAddedToItsKeyIndex, ArrivalIsRemovedFromItsKeyIndex, ArrivalsByKeyAreUnchanged, ArrivalIsInNeitherKeyIndex, ArrivalsByKeyAreExact}
 use Rattle.proxy_core.proofs.Indexed.{lookup-removed, not_indexed, indexes-entered, indexes-left, indexes-written, indexes-on_all}
 use Rattle.proxy_core.specs.LeadingOn.{may_lead_next, as_next_leader, first_waiter_to_lead, exchanges_without}
 use Rattle.proxy_core.proofs.FirstOf.{first_of, FirstIsLeft, none_passes, none_left, not_there, not_passing, it_is_first}
@@ -36,41 +36,41 @@ abbrev at : ℕ → ℕ → Bool
 at n k = is_at (nat_cmp n) k
 
 -- one index, of the exchanges that ask so
-abbrev TellsAll : (Key → Exchange → Bool) → KeyIndex → Numbered → Type 0
-TellsAll which index es = (key : Key) → IsExactIndexOfSelected (which key) (is_in_key_index index key) es
+abbrev TellsAll : (Key → Exchange → Bool) → ArrivalKeyIndex → Numbered → Type 0
+TellsAll which index es = (key : Key) → IsExactIndexOfSelected (which key) (arrival_is_in_key_index index key) es
 
-not_told : (which : Key → Exchange → Bool) (n : ℕ) (es : Numbered) (index : KeyIndex) → All (λ k. k < n) (keys_of es) → TellsAll which index es → ArrivalIsNotInKeyIndex n index
-not_told which n es index l h key = not_indexed (which key) (is_in_key_index index key) n es (none_has n es l) (h key)
+not_told : (which : Key → Exchange → Bool) (n : ℕ) (es : Numbered) (index : ArrivalKeyIndex) → All (λ k. k < n) (keys_of es) → TellsAll which index es → ArrivalIsNotInKeyIndex n index
+not_told which n es index l h key = not_indexed (which key) (arrival_is_in_key_index index key) n es (none_has n es l) (h key)
 
-told-entered : (which : Key → Exchange → Bool) (n : ℕ) (x : Exchange) (es : Numbered) (old new : KeyIndex) → All (λ k. k < n) (keys_of es) → ArrivalIsAddedIfSelected which x n old new →
+told-entered : (which : Key → Exchange → Bool) (n : ℕ) (x : Exchange) (es : Numbered) (old new : ArrivalKeyIndex) → All (λ k. k < n) (keys_of es) → ArrivalIsAddedIfSelected which x n old new →
     TellsAll which old es → TellsAll which new (es ++ (n, x) ∷ [])
-told-entered which n x es old new l k h key = indexes-entered (which key) n x (is_in_key_index old key) (is_in_key_index new key) es (none_has n es l) (k key) (h key)
+told-entered which n x es old new l k h key = indexes-entered (which key) n x (arrival_is_in_key_index old key) (arrival_is_in_key_index new key) es (none_has n es l) (k key) (h key)
 
-told-again : (which : Key → Exchange → Bool) (es : Numbered) (old new : KeyIndex) → KeyIndexesHaveSameMembers old new → TellsAll which old es → TellsAll which new es
+told-again : (which : Key → Exchange → Bool) (es : Numbered) (old new : ArrivalKeyIndex) → KeyIndexesHaveSameMembers old new → TellsAll which old es → TellsAll which new es
 told-again which es old new k h key m = k key m ∙ h key m
 
-told-closed : (which : Key → Exchange → Bool) (n : ℕ) (x : Exchange) (es : Numbered) (old new : KeyIndex) → HaveDistinctArrivalsAndIds es → lookup (at n) es ≡ Some x → ArrivalIsRemovedIfSelected which x n old new →
+told-closed : (which : Key → Exchange → Bool) (n : ℕ) (x : Exchange) (es : Numbered) (old new : ArrivalKeyIndex) → HaveDistinctArrivalsAndIds es → lookup (at n) es ≡ Some x → ArrivalIsRemovedIfSelected which x n old new →
     TellsAll which old es → TellsAll which new (remove_entry (at n) es)
 told-closed which n x es old new a there k h key =
-    indexes-left (which key) n x None (is_in_key_index old key) (is_in_key_index new key) es (remove_entry (at n) es) there refl (λ m. lookup-removed m n es a) (k key) (h key)
+    indexes-left (which key) n x None (arrival_is_in_key_index old key) (arrival_is_in_key_index new key) es (remove_entry (at n) es) there refl (λ m. lookup-removed m n es a) (k key) (h key)
 
-told-on_all : (which : Key → Exchange → Bool) (f : Exchange → Exchange) → ((key : Key) (x : Exchange) → which key (f x) ≡ which key x) → (es : Numbered) (index : KeyIndex) → TellsAll which index es → TellsAll which index (map_exchanges f es)
+told-on_all : (which : Key → Exchange → Bool) (f : Exchange → Exchange) → ((key : Key) (x : Exchange) → which key (f x) ≡ which key x) → (es : Numbered) (index : ArrivalKeyIndex) → TellsAll which index es → TellsAll which index (exchanges_each_changed f es)
 told-on_all which f k es index h key =
-    indexes-on_all (which key) f (λ b. b) (is_in_key_index index key) (is_in_key_index index key) es refl (k key) (λ m. refl) (h key)
+    indexes-on_all (which key) f (λ b. b) (arrival_is_in_key_index index key) (arrival_is_in_key_index index key) es refl (k key) (λ m. refl) (h key)
 
 -- what was put in and taken out again leaves what was there
-again-nothing : (which : Key → Exchange → Bool) (n : ℕ) (x : Exchange) (old mid new : KeyIndex) → ArrivalIsNotInKeyIndex n old → ArrivalIsAddedIfSelected which x n old mid → ArrivalIsRemovedIfSelected which x n mid new → KeyIndexesHaveSameMembers old new
+again-nothing : (which : Key → Exchange → Bool) (n : ℕ) (x : Exchange) (old mid new : ArrivalKeyIndex) → ArrivalIsNotInKeyIndex n old → ArrivalIsAddedIfSelected which x n old mid → ArrivalIsRemovedIfSelected which x n mid new → KeyIndexesHaveSameMembers old new
 again-nothing which n x old mid new not_there put out key m = elim (cases_Bool (eqb n m)) [
   | inl t ↦ (
-      let none : is_in_key_index old key m ≡ false = ap (is_in_key_index old key) (sym (eqb-true n m t)) ∙ not_there key in
+      let none : arrival_is_in_key_index old key m ≡ false = ap (arrival_is_in_key_index old key) (sym (eqb-true n m t)) ∙ not_there key in
       out key m ∙ ap (λ b. not (which key x && eqb n m) && b) (put key m)
-      ∙ ap (λ b. not (which key x && b) && ((which key x && b) || is_in_key_index old key m)) t
+      ∙ ap (λ b. not (which key x && b) && ((which key x && b) || arrival_is_in_key_index old key m)) t
       ∙ ap (λ b. not (which key x && true) && ((which key x && true) || b)) none ∙ gone (which key x) ∙ sym none
       )
   | inr f ↦ (
       out key m ∙ ap (λ b. not (which key x && eqb n m) && b) (put key m)
-      ∙ ap (λ b. not (which key x && b) && ((which key x && b) || is_in_key_index old key m)) f
-      ∙ stays (which key x) (is_in_key_index old key m)
+      ∙ ap (λ b. not (which key x && b) && ((which key x && b) || arrival_is_in_key_index old key m)) f
+      ∙ stays (which key x) (arrival_is_in_key_index old key m)
       )
 ]
   where
@@ -109,7 +109,7 @@ asked-closed n x es old new a there k h =
 abbrev pub KeepsItsPlace : (Exchange → Exchange) → Type 0
 KeepsItsPlace f = (x : Exchange) → ((f x).asked ≡ x.asked) × (is_forwarded (f x).stage ≡ is_forwarded x.stage)
 
-pub asked-on_all : (f : Exchange → Exchange) → KeepsItsPlace f → (es : Numbered) (by_key : ArrivalsByKey) → ArrivalsByKeyAreExact by_key es → ArrivalsByKeyAreExact by_key (map_exchanges f es)
+pub asked-on_all : (f : Exchange → Exchange) → KeepsItsPlace f → (es : Numbered) (by_key : ArrivalsByKey) → ArrivalsByKeyAreExact by_key es → ArrivalsByKeyAreExact by_key (exchanges_each_changed f es)
 asked-on_all f k es by_key h = (
   told-on_all is_get_at_origin_for_key f at_origin es by_key.gets h.0,
   told-on_all is_for_key_but_no_get_at_origin f other_place es by_key.others h.1,
@@ -126,7 +126,7 @@ asked-on_all f k es by_key h = (
         ∙ ap (λ b. same_key x.asked.target.key key && not (is_get x.asked && b)) (k x).1
 
 -- whoever is released waited, and so wasn't at the origin
-pub release-place : (q : ℕ) → KeepsItsPlace (released_exchange q)
+pub release-place : (q : ℕ) → KeepsItsPlace (exchange_released_from_leader q)
 release-place q x = (
   elim (waits_for q x.stage) as (λ b. (cond b (record x { stage = Released }) x).asked ≡ x.asked) [ true ↦ refl | false ↦ refl ],
   elim (cases_Bool (waits_for q x.stage)) [
@@ -140,7 +140,7 @@ release-place q x = (
     not_yet (Waiting leader) h = refl
     not_yet Released h = refl
 
-pub overtake-place : (key : Scope) → KeepsItsPlace (overtaken_exchange key)
+pub overtake-place : (key : Scope) → KeepsItsPlace (exchange_overtaken_if_in_scope key)
 overtake-place key x = (
   elim (key_is_in_scope key x.asked.target.key) as (λ b. (cond b (record x { overtaken = true }) x).asked ≡ x.asked) [ true ↦ refl | false ↦ refl ],
   ap is_forwarded (overtake-stage key x),
@@ -149,12 +149,12 @@ overtake-place key x = (
 -- ---- going forward
 
 -- one exchange was written at its number: the index tells of it what holds now, and of the others what it told
-told-written : (which : Key → Exchange → Bool) (n : ℕ) (x y : Exchange) (es : Numbered) (old new : KeyIndex) → lookup (at n) es ≡ Some x →
-    ((key : Key) (m : ℕ) → eqb n m ≡ false → is_in_key_index new key m ≡ is_in_key_index old key m) →
-    ((key : Key) → is_in_key_index old key n ≡ which key x → is_in_key_index new key n ≡ which key y) →
+told-written : (which : Key → Exchange → Bool) (n : ℕ) (x y : Exchange) (es : Numbered) (old new : ArrivalKeyIndex) → lookup (at n) es ≡ Some x →
+    ((key : Key) (m : ℕ) → eqb n m ≡ false → arrival_is_in_key_index new key m ≡ arrival_is_in_key_index old key m) →
+    ((key : Key) → arrival_is_in_key_index old key n ≡ which key x → arrival_is_in_key_index new key n ≡ which key y) →
     TellsAll which old es → TellsAll which new (set_value (at n) es y)
 told-written which n x y es old new there beside here h key =
-    indexes-written (which key) n x y (is_in_key_index old key) (is_in_key_index new key) es there (beside key) (here key) (h key)
+    indexes-written (which key) n x y (arrival_is_in_key_index old key) (arrival_is_in_key_index new key) es there (beside key) (here key) (h key)
 
 pub asked-moved : (n : ℕ) (x y : Exchange) (es : Numbered) (old new : ArrivalsByKey) → lookup (at n) es ≡ Some x → y.asked ≡ x.asked → is_forwarded y.stage ≡ true →
     ArrivalIsMovedToOrigin x n old new → ArrivalsByKeyAreExact old es → ArrivalsByKeyAreExact new (set_value (at n) es y)
@@ -174,11 +174,11 @@ asked-moved n x y es old new there asks out k h = (
     out_beside true b = refl
     out_beside false b = refl
 
-    gets_beside : (key : Key) (m : ℕ) → eqb n m ≡ false → is_in_key_index new.gets key m ≡ is_in_key_index old.gets key m
-    gets_beside key m o = k.0 key m ∙ ap (λ b. (is_get_not_at_origin_for_key key x && b) || is_in_key_index old.gets key m) o ∙ put_beside (is_get_not_at_origin_for_key key x) (is_in_key_index old.gets key m)
+    gets_beside : (key : Key) (m : ℕ) → eqb n m ≡ false → arrival_is_in_key_index new.gets key m ≡ arrival_is_in_key_index old.gets key m
+    gets_beside key m o = k.0 key m ∙ ap (λ b. (is_get_for_key_not_at_origin key x && b) || arrival_is_in_key_index old.gets key m) o ∙ put_beside (is_get_for_key_not_at_origin key x) (arrival_is_in_key_index old.gets key m)
 
-    others_beside : (key : Key) (m : ℕ) → eqb n m ≡ false → is_in_key_index new.others key m ≡ is_in_key_index old.others key m
-    others_beside key m o = k.1 key m ∙ ap (λ b. not (is_get_not_at_origin_for_key key x && b) && is_in_key_index old.others key m) o ∙ out_beside (is_get_not_at_origin_for_key key x) (is_in_key_index old.others key m)
+    others_beside : (key : Key) (m : ℕ) → eqb n m ≡ false → arrival_is_in_key_index new.others key m ≡ arrival_is_in_key_index old.others key m
+    others_beside key m o = k.1 key m ∙ ap (λ b. not (is_get_for_key_not_at_origin key x && b) && arrival_is_in_key_index old.others key m) o ∙ out_beside (is_get_for_key_not_at_origin key x) (arrival_is_in_key_index old.others key m)
 
     -- by the key, the method, and whether it was at the origin
     put_here : (s g f : Bool) → (((s && (g && not f)) && true) || (s && (g && f))) ≡ (s && (g && true))
@@ -193,18 +193,18 @@ asked-moved n x y es old new there asks out k h = (
     out_here true false f = refl
     out_here false g f = refl
 
-    gets_here : (key : Key) → is_in_key_index old.gets key n ≡ is_get_at_origin_for_key key x → is_in_key_index new.gets key n ≡ is_get_at_origin_for_key key y
+    gets_here : (key : Key) → arrival_is_in_key_index old.gets key n ≡ is_get_at_origin_for_key key x → arrival_is_in_key_index new.gets key n ≡ is_get_at_origin_for_key key y
     gets_here key was =
-        k.0 key n ∙ ap (λ b. (is_get_not_at_origin_for_key key x && b) || is_in_key_index old.gets key n) itself
-        ∙ ap (λ b. (is_get_not_at_origin_for_key key x && true) || b) was
+        k.0 key n ∙ ap (λ b. (is_get_for_key_not_at_origin key x && b) || arrival_is_in_key_index old.gets key n) itself
+        ∙ ap (λ b. (is_get_for_key_not_at_origin key x && true) || b) was
         ∙ put_here (same_key x.asked.target.key key) (is_get x.asked) (is_forwarded x.stage)
         ∙ ap (λ (a : Asked). same_key a.target.key key && (is_get a && true)) (sym asks)
         ∙ ap (λ b. same_key y.asked.target.key key && (is_get y.asked && b)) (sym out)
 
-    others_here : (key : Key) → is_in_key_index old.others key n ≡ is_for_key_but_no_get_at_origin key x → is_in_key_index new.others key n ≡ is_for_key_but_no_get_at_origin key y
+    others_here : (key : Key) → arrival_is_in_key_index old.others key n ≡ is_for_key_but_no_get_at_origin key x → arrival_is_in_key_index new.others key n ≡ is_for_key_but_no_get_at_origin key y
     others_here key was =
-        k.1 key n ∙ ap (λ b. not (is_get_not_at_origin_for_key key x && b) && is_in_key_index old.others key n) itself
-        ∙ ap (λ b. not (is_get_not_at_origin_for_key key x && true) && b) was
+        k.1 key n ∙ ap (λ b. not (is_get_for_key_not_at_origin key x && b) && arrival_is_in_key_index old.others key n) itself
+        ∙ ap (λ b. not (is_get_for_key_not_at_origin key x && true) && b) was
         ∙ out_here (same_key x.asked.target.key key) (is_get x.asked) (is_forwarded x.stage)
         ∙ ap (λ (a : Asked). same_key a.target.key key && not (is_get a && true)) (sym asks)
         ∙ ap (λ b. same_key y.asked.target.key key && not (is_get y.asked && b)) (sym out)
@@ -244,7 +244,7 @@ parts false b c d h = absurd (false≢true h)
 gets_lead : (policy : Policy) (awaited : Awaited) (asked : Asked) (p : ℕ → Bool) (es : Numbered) → ArrivalsOfGetsAtOriginPassTest asked.target.key p es → SelectedArrivalsPassTest (is_leader_for_request policy awaited asked) p es
 gets_lead policy awaited asked p [] h = tt
 gets_lead policy awaited asked p (e ∷ es) h =
-    (λ w. h.0 (parts (same_key e.1.asked.target.key asked.target.key) (is_get e.1.asked) (is_forwarded e.1.stage) (exchange_asks_for_awaited awaited e.1 && answer_may_serve policy asked e.1) w), gets_lead policy awaited asked p es h.1)
+    (λ w. h.0 (parts (same_key e.1.asked.target.key asked.target.key) (is_get e.1.asked) (is_forwarded e.1.stage) (exchange_went_forward_for_awaited awaited e.1 && answer_may_serve policy asked e.1) w), gets_lead policy awaited asked p es h.1)
 
 pub leaders : (policy : Policy) (awaited : Awaited) (asked : Asked) (ns : List ℕ) (es : Numbered) → IsStrictlySortedBy nat_cmp ns → ArrivalsOfGetsAtOriginPassTest asked.target.key (λ k. list_any (λ n. at k n) ns) es → LeadersLeft policy awaited asked ns es
 leaders policy awaited asked ns es s h = (gets_lead policy awaited asked (λ k. list_any (λ n. at k n) ns) es h, s)

@@ -13,18 +13,18 @@ use Rattle.hx_directives.specs.Answers.{directive_occurs, seconds_of_directive}
 use Rattle.hx_directives.specs.declared.names.Directive.TheVariants as directive
 use Rattle.hx_age.specs.declared.lifetimes.Lifetime.{Lifetime}
 use Rattle.hx_age.specs.declared.moments.Times.{Times}
-use Rattle.hx_age.specs.Age.{lifetime_ended_at}
+use Rattle.hx_age.specs.Age.{lifetime_shortened_to_end_by}
 use Rattle.hx_age.specs.Lifetime.{lifetime_of, explicit_lifetime, seconds_or_zero, seconds_from_date_to_expires}
 use Rattle.hx_hop.specs.declared.request_view.Asked.{Asked}
 use Rattle.hx_store.specs.Stored.{Stored}
 use Rattle.hx_store.specs.Serials.{SerialsAreDistinct}
-use Rattle.hx_store.specs.Shelf.{serials, find_entry}
+use Rattle.hx_store.specs.Shelf.{serials, find_entry_of_serial}
 use Rattle.std.specs.Option.{option_and_then}
 use Rattle.hx_reuse.proofs.Choice.{found_by_serial, chosen_is_held}
 use Rattle.hx_reuse.specs.Lifetimes.{lifetime_of_stored_response, lifetime_under_policy, lifetime_capped_at, lifetime_or_given_by_operator}
 use Rattle.hx_reuse.specs.Chosen.{chosen_of}
 use Rattle.hx_reuse.specs.RuleNames.{reuse_rule_number}
-use Rattle.hx_reuse.specs.Rules.{ReuseSituation, reuse_rule_condition, reuse_rule_applies, rule_applies_to_chosen, situation_of_request, is_fresh_situation, is_some_and, is_rule_on_chosen, decision_of}
+use Rattle.hx_reuse.specs.Rules.{ReuseSituation, reuse_rule_condition, reuse_rule_applies, rule_applies_to_chosen, situation_of_request, situation_is_fresh, is_some_and, is_rule_on_chosen, decision_of}
 use Rattle.hx_reuse.specs.ChosenAndNamed.{IsLeastReuseRule, RuleOnChosenNamesItsSerial}
 use Rattle.hx_reuse.specs.declared.rule.ReuseRule.{ReuseRule}
 use Rattle.hx_reuse.specs.declared.rule.ReuseRule.TheVariants as rules
@@ -33,7 +33,7 @@ use Rattle.hx_reuse.proofs.MeaningLemmas.{forwards, names_the_least}
 use Rattle.proxy_core.specs.declared.open.awaited.Awaited.{Awaited}
 use Rattle.proxy_core.specs.declared.open.awaited.Awaited.TheVariants.{Missing, Expired}
 use Rattle.proxy_core.specs.Leading.{is_get, is_uri_miss}
-use Rattle.proxy_core.specs.Awaiting.{no_cache_request_is_heeded, ResponseHasExpired, RuleAllowsAwaiting, RequestMayAwaitAnother, is_staleness_rule, awaited_of_chosen, awaited_by_rule, chosen_by_serial, awaited_by_request}
+use Rattle.proxy_core.specs.Awaiting.{no_cache_request_is_heeded, StaleResponseCanBeFreshAgain, RuleAllowsAwaiting, RequestMayAwaitAnother, is_staleness_rule, awaited_for_chosen_response, response_awaited_by_rule, chosen_by_serial, response_awaited_by_request}
 
 -- ---- a lifetime above 0 is stated, or given
 
@@ -71,7 +71,7 @@ lifetime_is_stated policy status fields h = by_test (lifetime_of fields).explici
     by_test false k h = by_given (lifetime_given_by_policy policy status) k h
 
 -- a purge ends a lifetime, which stays one that is stated or given
-same_explicit : (purge : Option ℕ) (times : Times) (lifetime : Lifetime) → (lifetime_ended_at purge times lifetime).explicit ≡ lifetime.explicit
+same_explicit : (purge : Option ℕ) (times : Times) (lifetime : Lifetime) → (lifetime_shortened_to_end_by purge times lifetime).explicit ≡ lifetime.explicit
 same_explicit None times lifetime = refl
 same_explicit (Some moment) times lifetime = refl
 
@@ -163,10 +163,10 @@ after_no_cache rules.StaleMaxAge h = omega arith
 after_no_cache rules.StaleMinFresh h = omega arith
 
 -- what the operator keeps from the store is kept for nobody
-pub operator_awaits_nothing : (policy : Policy) (es : List Stored) (asked : Asked) → awaited_by_request policy es asked rules.Operator ≡ None
+pub operator_awaits_nothing : (policy : Policy) (es : List Stored) (asked : Asked) → response_awaited_by_request policy es asked rules.Operator ≡ None
 operator_awaits_nothing policy es asked = by_tests (not (is_get asked) || (policy.waits_for_stale && no_cache_request_is_heeded policy asked)) policy.waits_for_stale
   where
-    by_tests : (b w : Bool) → cond b None (cond (w && false) (awaited_of_chosen policy (chosen_by_serial es asked)) None) ≡ None
+    by_tests : (b w : Bool) → cond b None (cond (w && false) (awaited_for_chosen_response policy (chosen_by_serial es asked)) None) ≡ None
     by_tests true w = refl
     by_tests false true = refl
     by_tests false false = refl
@@ -194,7 +194,7 @@ module _ (policy : Policy) (es : List Stored) (asked : Asked) (now : ℕ) where
     condition_of rule b h = sym (ap (λ c. is_some_and (λ e. reuse_rule_condition rule (situation_of_request policy e asked now)) c) chosen) ∙ h
 
     -- of the rules on a stale response five are left
-    five_are_left : is_fresh_situation here ≡ false → directive_occurs here.response directive.NoCache ≡ false → no_cache_request_is_heeded policy asked ≡ false → here.lifetime.explicit ≡ true →
+    five_are_left : situation_is_fresh here ≡ false → directive_occurs here.response directive.NoCache ≡ false → no_cache_request_is_heeded policy asked ≡ false → here.lifetime.explicit ≡ true →
         (rule : ReuseRule) → is_rule_on_chosen rule ≡ true → reuse_rule_applies rule policy es asked now ≡ true → is_staleness_rule rule ≡ true
     five_are_left stale cache asks stated rules.Operator names h = absurd (false≢true names)
     five_are_left stale cache asks stated rules.Method names h = absurd (false≢true names)
@@ -204,22 +204,22 @@ module _ (policy : Policy) (es : List Stored) (asked : Asked) (now : ℕ) where
     five_are_left stale cache asks stated rules.UriMiss names h = absurd (false≢true names)
     five_are_left stale cache asks stated rules.VaryMiss names h = absurd (false≢true names)
     five_are_left stale cache asks stated rules.ResponseNoCache names h = absurd (false≢true (sym cache ∙ condition_of rules.ResponseNoCache true h))
-    five_are_left stale cache asks stated rules.RequestNoCache names h = absurd (false≢true (sym (first_absent (is_fresh_situation here) _ stale) ∙ condition_of rules.RequestNoCache true h))
-    five_are_left stale cache asks stated rules.AboveMaxAge names h = absurd (false≢true (sym (first_absent (is_fresh_situation here) _ stale) ∙ condition_of rules.AboveMaxAge true h))
-    five_are_left stale cache asks stated rules.BelowMinFresh names h = absurd (false≢true (sym (first_absent (is_fresh_situation here) _ stale) ∙ condition_of rules.BelowMinFresh true h))
+    five_are_left stale cache asks stated rules.RequestNoCache names h = absurd (false≢true (sym (first_absent (situation_is_fresh here) _ stale) ∙ condition_of rules.RequestNoCache true h))
+    five_are_left stale cache asks stated rules.AboveMaxAge names h = absurd (false≢true (sym (first_absent (situation_is_fresh here) _ stale) ∙ condition_of rules.AboveMaxAge true h))
+    five_are_left stale cache asks stated rules.BelowMinFresh names h = absurd (false≢true (sym (first_absent (situation_is_fresh here) _ stale) ∙ condition_of rules.BelowMinFresh true h))
     five_are_left stale cache asks stated rules.MustRevalidate names h = refl
-    five_are_left stale cache asks stated rules.NoLifetime names h = absurd (false≢true (sym (last_absent (not (is_fresh_situation here)) (not here.lifetime.explicit) (not_true here.lifetime.explicit stated)) ∙ condition_of rules.NoLifetime true h))
-    five_are_left stale cache asks stated rules.StaleNoCache names h = absurd (false≢true (sym (last_absent (not (is_fresh_situation here)) (no_cache_request_is_heeded policy asked) asks) ∙ condition_of rules.StaleNoCache true h))
+    five_are_left stale cache asks stated rules.NoLifetime names h = absurd (false≢true (sym (last_absent (not (situation_is_fresh here)) (not here.lifetime.explicit) (not_true here.lifetime.explicit stated)) ∙ condition_of rules.NoLifetime true h))
+    five_are_left stale cache asks stated rules.StaleNoCache names h = absurd (false≢true (sym (last_absent (not (situation_is_fresh here)) (no_cache_request_is_heeded policy asked) asks) ∙ condition_of rules.StaleNoCache true h))
     five_are_left stale cache asks stated rules.NoMaxStale names h = refl
     five_are_left stale cache asks stated rules.PastMaxStale names h = refl
     five_are_left stale cache asks stated rules.StaleMaxAge names h = refl
     five_are_left stale cache asks stated rules.StaleMinFresh names h = refl
 
     -- by each of these the response is stale
-    is_stale_by : (rule : ReuseRule) → is_staleness_rule rule ≡ true → reuse_rule_applies rule policy es asked now ≡ true → is_fresh_situation here ≡ false
-    is_stale_by rule expired h = by_fresh (is_fresh_situation here) refl
+    is_stale_by : (rule : ReuseRule) → is_staleness_rule rule ≡ true → reuse_rule_applies rule policy es asked now ≡ true → situation_is_fresh here ≡ false
+    is_stale_by rule expired h = by_fresh (situation_is_fresh here) refl
       where
-        by_fresh : (b : Bool) → is_fresh_situation here ≡ b → b ≡ false
+        by_fresh : (b : Bool) → situation_is_fresh here ≡ b → b ≡ false
         by_fresh false k = refl
         by_fresh true k = absurd (against rule expired h)
           where
@@ -235,13 +235,13 @@ module _ (policy : Policy) (es : List Stored) (asked : Asked) (now : ℕ) where
             against rules.RequestNoCache expired h = false≢true expired
             against rules.AboveMaxAge expired h = false≢true expired
             against rules.BelowMinFresh expired h = false≢true expired
-            against rules.MustRevalidate expired h = false≢true (sym (not_first (is_fresh_situation here) _ k) ∙ condition_of rules.MustRevalidate true h)
+            against rules.MustRevalidate expired h = false≢true (sym (not_first (situation_is_fresh here) _ k) ∙ condition_of rules.MustRevalidate true h)
             against rules.NoLifetime expired h = false≢true expired
             against rules.StaleNoCache expired h = false≢true expired
-            against rules.NoMaxStale expired h = false≢true (sym (not_first (is_fresh_situation here) _ k) ∙ condition_of rules.NoMaxStale true h)
-            against rules.PastMaxStale expired h = false≢true (sym (not_first (is_fresh_situation here) _ k) ∙ condition_of rules.PastMaxStale true h)
-            against rules.StaleMaxAge expired h = false≢true (sym (not_first (is_fresh_situation here) _ k) ∙ condition_of rules.StaleMaxAge true h)
-            against rules.StaleMinFresh expired h = false≢true (sym (not_first (is_fresh_situation here) _ k) ∙ condition_of rules.StaleMinFresh true h)
+            against rules.NoMaxStale expired h = false≢true (sym (not_first (situation_is_fresh here) _ k) ∙ condition_of rules.NoMaxStale true h)
+            against rules.PastMaxStale expired h = false≢true (sym (not_first (situation_is_fresh here) _ k) ∙ condition_of rules.PastMaxStale true h)
+            against rules.StaleMaxAge expired h = false≢true (sym (not_first (situation_is_fresh here) _ k) ∙ condition_of rules.StaleMaxAge true h)
+            against rules.StaleMinFresh expired h = false≢true (sym (not_first (situation_is_fresh here) _ k) ∙ condition_of rules.StaleMinFresh true h)
 
   -- ---- from the words to the rule
 
@@ -249,7 +249,7 @@ module _ (policy : Policy) (es : List Stored) (asked : Asked) (now : ℕ) where
   by_word w h = second_false policy.waits_for_stale (no_cache_request_is_heeded policy asked) w h
 
   abbrev left_by : ReuseRule → Option Awaited
-  left_by rule = cond (is_uri_miss rule) (Some Missing) (cond (policy.waits_for_stale && is_staleness_rule rule) (awaited_of_chosen policy (chosen_of es asked)) None)
+  left_by rule = cond (is_uri_miss rule) (Some Missing) (cond (policy.waits_for_stale && is_staleness_rule rule) (awaited_for_chosen_response policy (chosen_of es asked)) None)
 
   left_by_words : (rule : ReuseRule) (awaited : Awaited) → (policy.waits_for_stale && no_cache_request_is_heeded policy asked) ≡ false → IsLeastReuseRule policy es asked now rule → RuleAllowsAwaiting policy es asked now rule awaited → left_by rule ≡ Some awaited
   left_by_words rule Missing takes least l = ap left_by l
@@ -259,24 +259,24 @@ module _ (policy : Policy) (es : List Stored) (asked : Asked) (now : ℕ) where
       let over = l.2.2 in
       let seconds = is_below 0 (lifetime_under_policy policy e.status e.fields).seconds over.had_lifetime in
       let expired = five_are_left e chosen over.is_over over.response_lacks_no_cache (by_word l.0 takes) (held_is_stated policy e seconds) rule l.1 least.rule_applies in
-      ap (λ b. cond b (Some Missing) (cond (policy.waits_for_stale && is_staleness_rule rule) (awaited_of_chosen policy (chosen_of es asked)) None)) (named_is_no_miss rule l.1)
-      ∙ (ap (λ b. cond (b && is_staleness_rule rule) (awaited_of_chosen policy (chosen_of es asked)) None) l.0
-      ∙ (ap (λ b. cond b (awaited_of_chosen policy (chosen_of es asked)) None) expired
-      ∙ (ap (awaited_of_chosen policy) chosen
+      ap (λ b. cond b (Some Missing) (cond (policy.waits_for_stale && is_staleness_rule rule) (awaited_for_chosen_response policy (chosen_of es asked)) None)) (named_is_no_miss rule l.1)
+      ∙ (ap (λ b. cond (b && is_staleness_rule rule) (awaited_for_chosen_response policy (chosen_of es asked)) None) l.0
+      ∙ (ap (λ b. cond b (awaited_for_chosen_response policy (chosen_of es asked)) None) expired
+      ∙ (ap (awaited_for_chosen_response policy) chosen
       ∙ (ap (λ b. cond b (Some (Expired e.serial)) None) seconds
       ∙ ap (λ n. Some (Expired n)) l.2.3))))
 
   found_is : SerialsAreDistinct (serials es) → chosen_by_serial es asked ≡ chosen_of es asked
   found_is distinct = by_chosen (chosen_of es asked) refl
     where
-      by_chosen : (c : Option Stored) → chosen_of es asked ≡ c → option_and_then (λ e. find_entry e.serial es) c ≡ c
+      by_chosen : (c : Option Stored) → chosen_of es asked ≡ c → option_and_then (λ e. find_entry_of_serial e.serial es) c ≡ c
       by_chosen None k = refl
       by_chosen (Some e) k = found_by_serial es distinct e (chosen_is_held es asked e k)
 
-  pub awaited_by_words : SerialsAreDistinct (serials es) → (rule : ReuseRule) (awaited : Awaited) → IsLeastReuseRule policy es asked now rule → RequestMayAwaitAnother policy es asked now awaited → awaited_by_request policy es asked rule ≡ Some awaited
+  pub awaited_by_words : SerialsAreDistinct (serials es) → (rule : ReuseRule) (awaited : Awaited) → IsLeastReuseRule policy es asked now rule → RequestMayAwaitAnother policy es asked now awaited → response_awaited_by_request policy es asked rule ≡ Some awaited
   awaited_by_words distinct rule awaited least w =
-      ap (awaited_by_request policy es asked) (one_rule rule w.rule least w.is_least)
-      ∙ (ap (λ c. awaited_by_rule policy c asked w.rule) (found_is distinct)
+      ap (response_awaited_by_request policy es asked) (one_rule rule w.rule least w.is_least)
+      ∙ (ap (λ c. response_awaited_by_rule policy c asked w.rule) (found_is distinct)
       ∙ (ap (λ b. cond (not b || (policy.waits_for_stale && no_cache_request_is_heeded policy asked)) None (left_by w.rule)) w.gets
       ∙ (ap (λ b. cond b None (left_by w.rule)) w.no_cache_is_not_heeded
       ∙ left_by_words w.rule awaited w.no_cache_is_not_heeded w.is_least w.leaves)))
@@ -287,11 +287,11 @@ module _ (policy : Policy) (es : List Stored) (asked : Asked) (now : ℕ) where
   never_some awaited h = absurd (cc)
 
   of_chosen : (rule : ReuseRule) (awaited : Awaited) (c : Option Stored) → policy.waits_for_stale ≡ true → is_staleness_rule rule ≡ true → IsLeastReuseRule policy es asked now rule →
-      chosen_of es asked ≡ c → awaited_of_chosen policy c ≡ Some awaited → RuleAllowsAwaiting policy es asked now rule awaited
+      chosen_of es asked ≡ c → awaited_for_chosen_response policy c ≡ Some awaited → RuleAllowsAwaiting policy es asked now rule awaited
   of_chosen rule awaited None waits expired least chosen h = never_some awaited h
   of_chosen rule awaited (Some e) waits expired least chosen h = by_seconds (nat_lt 0 (lifetime_under_policy policy e.status e.fields).seconds) refl h
     where
-      over : nat_lt 0 (lifetime_under_policy policy e.status e.fields).seconds ≡ true → ResponseHasExpired policy now e
+      over : nat_lt 0 (lifetime_under_policy policy e.status e.fields).seconds ≡ true → StaleResponseCanBeFreshAgain policy now e
       over k = record {
         had_lifetime = below 0 (lifetime_under_policy policy e.status e.fields).seconds k;
         is_over = is_stale_by e chosen rule expired least.rule_applies;
@@ -303,12 +303,12 @@ module _ (policy : Policy) (es : List Stored) (asked : Asked) (now : ℕ) where
       by_seconds true k h =
           subst (RuleAllowsAwaiting policy es asked now rule) (same_Some (Expired e.serial) awaited h) (waits, expired_names rule expired, (e, chosen, over k, refl))
 
-  pub awaited_in_words : SerialsAreDistinct (serials es) → (rule : ReuseRule) (awaited : Awaited) → IsLeastReuseRule policy es asked now rule → awaited_by_request policy es asked rule ≡ Some awaited → RequestMayAwaitAnother policy es asked now awaited
+  pub awaited_in_words : SerialsAreDistinct (serials es) → (rule : ReuseRule) (awaited : Awaited) → IsLeastReuseRule policy es asked now rule → response_awaited_by_request policy es asked rule ≡ Some awaited → RequestMayAwaitAnother policy es asked now awaited
   awaited_in_words distinct rule awaited least h =
-      by_request (is_get asked) (policy.waits_for_stale && no_cache_request_is_heeded policy asked) refl refl (sym (ap (λ c. awaited_by_rule policy c asked rule) (found_is distinct)) ∙ h)
+      by_request (is_get asked) (policy.waits_for_stale && no_cache_request_is_heeded policy asked) refl refl (sym (ap (λ c. response_awaited_by_rule policy c asked rule) (found_is distinct)) ∙ h)
     where
       by_rule : (m w x : Bool) → is_uri_miss rule ≡ m → policy.waits_for_stale ≡ w → is_staleness_rule rule ≡ x →
-          cond m (Some Missing) (cond (w && x) (awaited_of_chosen policy (chosen_of es asked)) None) ≡ Some awaited → RuleAllowsAwaiting policy es asked now rule awaited
+          cond m (Some Missing) (cond (w && x) (awaited_for_chosen_response policy (chosen_of es asked)) None) ≡ Some awaited → RuleAllowsAwaiting policy es asked now rule awaited
       by_rule true w x m waits expired h = subst (RuleAllowsAwaiting policy es asked now rule) (same_Some Missing awaited h) (miss_alone rule m)
       by_rule false true true m waits expired h = of_chosen rule awaited (chosen_of es asked) waits expired least refl h
       by_rule false true false m waits expired h = never_some awaited h
@@ -332,10 +332,10 @@ never_both b h k = absurd (false≢true (sym k ∙ h))
 
 abbrev left : Policy → Asked → ReuseRule → Option Stored → Bool → Option Awaited
 left policy asked rule c x =
-    cond (not (is_get asked) || (policy.waits_for_stale && no_cache_request_is_heeded policy asked)) None (cond (is_uri_miss rule) (Some Missing) (cond (policy.waits_for_stale && x) (awaited_of_chosen policy c) None))
+    cond (not (is_get asked) || (policy.waits_for_stale && no_cache_request_is_heeded policy asked)) None (cond (is_uri_miss rule) (Some Missing) (cond (policy.waits_for_stale && x) (awaited_for_chosen_response policy c) None))
 
 pub awaited_is : (policy : Policy) (es : List Stored) (asked : Asked) (now : ℕ) (rule : ReuseRule) (named : Option ℕ) → decision_of policy es asked now ≡ decision.Forward rule named →
-    awaited_by_rule policy (option_and_then (λ s. find_entry s es) named) asked rule ≡ awaited_by_request policy es asked rule
+    response_awaited_by_rule policy (option_and_then (λ s. find_entry_of_serial s es) named) asked rule ≡ response_awaited_by_request policy es asked rule
 awaited_is policy es asked now rule named d = by_name (names_the_least policy es asked now rule named d).1
   where
     nothing_more : (w : Bool) (a b : Option Awaited) → cond (w && false) a None ≡ cond (w && false) b None
@@ -346,14 +346,14 @@ awaited_is policy es asked now rule named d = by_name (names_the_least policy es
     by_expired true k h a b = never_both (is_rule_on_chosen rule) (expired_names rule k) h
     by_expired false k h a b =
         ap (λ o. cond (not (is_get asked) || (policy.waits_for_stale && no_cache_request_is_heeded policy asked)) None (cond (is_uri_miss rule) (Some Missing) o))
-        (nothing_more policy.waits_for_stale (awaited_of_chosen policy a) (awaited_of_chosen policy b))
+        (nothing_more policy.waits_for_stale (awaited_for_chosen_response policy a) (awaited_for_chosen_response policy b))
 
-    by_name : RuleOnChosenNamesItsSerial es asked rule named → awaited_by_rule policy (option_and_then (λ s. find_entry s es) named) asked rule ≡ awaited_by_request policy es asked rule
-    by_name (inl m) = by_expired (is_staleness_rule rule) refl m.0 (option_and_then (λ s. find_entry s es) named) (chosen_by_serial es asked)
+    by_name : RuleOnChosenNamesItsSerial es asked rule named → response_awaited_by_rule policy (option_and_then (λ s. find_entry_of_serial s es) named) asked rule ≡ response_awaited_by_request policy es asked rule
+    by_name (inl m) = by_expired (is_staleness_rule rule) refl m.0 (option_and_then (λ s. find_entry_of_serial s es) named) (chosen_by_serial es asked)
     by_name (inr m) =
-        ap (λ (n : Option ℕ). awaited_by_rule policy (option_and_then (λ s. find_entry s es) n) asked rule) m.1.2
-        ∙ sym (ap (λ (c : Option Stored). awaited_by_rule policy (option_and_then (λ e. find_entry e.serial es) c) asked rule) m.1.1)
+        ap (λ (n : Option ℕ). response_awaited_by_rule policy (option_and_then (λ s. find_entry_of_serial s es) n) asked rule) m.1.2
+        ∙ sym (ap (λ (c : Option Stored). response_awaited_by_rule policy (option_and_then (λ e. find_entry_of_serial e.serial es) c) asked rule) m.1.1)
 
 pub awaited_where : (policy : Policy) (es : List Stored) (asked : Asked) (now : ℕ) (rule : ReuseRule) (named : Option ℕ) (found : Option Stored) → decision_of policy es asked now ≡ decision.Forward rule named →
-    found ≡ option_and_then (λ s. find_entry s es) named → awaited_by_rule policy found asked rule ≡ awaited_by_request policy es asked rule
-awaited_where policy es asked now rule named found d is = ap (λ o. awaited_by_rule policy o asked rule) is ∙ awaited_is policy es asked now rule named d
+    found ≡ option_and_then (λ s. find_entry_of_serial s es) named → response_awaited_by_rule policy found asked rule ≡ response_awaited_by_request policy es asked rule
+awaited_where policy es asked now rule named found d is = ap (λ o. response_awaited_by_rule policy o asked rule) is ∙ awaited_is policy es asked now rule named d

@@ -10,7 +10,7 @@ use Rattle.hx_allow.specs.Matching.{policy_of}
 use Rattle.proxy_core.specs.Allowing.{verdict_of_asked}
 use Rattle.hx_allow.specs.declared.verdicts.Verdict.{Verdict}
 use Rattle.hx_allow.specs.declared.verdicts.Verdict.TheVariants as verdict
-use Rattle.hx_allow.specs.declared.verdicts.RequestRoute.{RequestRoute}
+use Rattle.hx_allow.specs.declared.verdicts.RouteOverLine.{RouteOverLine}
 use Rattle.hx_store.specs.Stored.{Stored}
 use Rattle.hx_reuse.specs.Rules.{decision_of}
 use Rattle.hx_reuse.specs.ChosenAndNamed.{IsLeastReuseRule, RuleOnChosenNamesItsSerial}
@@ -20,25 +20,25 @@ use Rattle.hx_reuse.specs.declared.decision.Decision.TheVariants as decision
 use Rattle.hx_reuse.proofs.MeaningLemmas.{names_the_least}
 use Rattle.hx_status.specs.declared.cause.FailKind.TheVariants.{BadAnswer}
 use Rattle.proxy_core.specs.declared.open.exchange.Exchange.{Exchange}
-use Rattle.proxy_core.specs.declared.steps.fallback.Fallback.{Fallback}
-use Rattle.proxy_core.specs.declared.steps.fallback.Fallback.TheVariants.{Sends, Refuses}
+use Rattle.proxy_core.specs.declared.steps.fallback.FallbackDecision.{FallbackDecision}
+use Rattle.proxy_core.specs.declared.steps.fallback.FallbackDecision.TheVariants.{Sends, Refuses}
 use Rattle.proxy_core.specs.declared.outcome.Outcome.{Outcome}
 use Rattle.proxy_core.specs.declared.outcome.Outcome.TheVariants.{Reply, Forward, Waits, Ended, WaitsNoMore}
 use Rattle.proxy_core.specs.declared.event.Event.{Event}
 use Rattle.proxy_core.specs.declared.event.Event.TheVariants.{Arrive, Answer, Fail, Wake, Abandon, Overdue}
-use Rattle.proxy_core.specs.Validating.{condition_about_serial, is_304_to_own_conditions, stored_response_validated}
+use Rattle.proxy_core.specs.Validating.{condition_to_revalidate_serial, is_304_to_own_conditions, stored_response_validated_by_304}
 use Rattle.proxy_core.specs.Storing.{is_304_without_condition}
 use Rattle.proxy_core.specs.declared.open.stage.Stage.{Stage}
 use Rattle.proxy_core.specs.declared.open.stage.Stage.TheVariants.{Forwarded, Waiting, Released}
 use Rattle.proxy_core.specs.declared.steps.condition.Condition.{Condition}
 use Rattle.proxy_core.specs.Leading.{is_forwarded, is_waiting, waits_for}
-use Rattle.proxy_core.specs.Outcomes.{find_exchange, exchange_id_of_event, outcome_of_arrival, outcome_of_allowed_request, outcome_of_waiting_or_forwarding, outcome_without_stored_response, outcome_of_wake, is_only_if_cached, forward_text, fallback_for_failed_answer, outcome_of_failure, is_error_status, outcome_of_passing_on_or_stale, outcome_of_304, outcome_of_answer, outcome_for_exchange}
+use Rattle.proxy_core.specs.Outcomes.{find_exchange, exchange_id_of_event, outcome_of_arrival, outcome_of_allowed_request, outcome_of_waiting_or_forwarding, outcome_where_reuse_rule_applies, outcome_of_wake, is_only_if_cached, forward_text, fallback_for_failed_answer, outcome_of_failure, is_stale_if_error_status, outcome_of_passing_on_or_stale, outcome_of_304, outcome_of_answer, outcome_of_event_at_exchange}
 use Rattle.proxy_core.specs.Scopes.{Scope, key_is_in_scope}
-use Rattle.proxy_core.specs.State.{State, scope_purged, overtaken_exchange, released_exchange, forwarded_exchange, waiting_exchange, line_of_verdict, rule_of_decision, serial_named_by_decision, exchange_gone_forward, exchange_forwarded_again, exchange_sent_forward, exchanges_after_wake, open_exchanges_after, exchange_released_by_timeout}
+use Rattle.proxy_core.specs.State.{State, scope_purged, exchange_overtaken_if_in_scope, exchange_released_from_leader, forwarded_exchange, exchange_begun_waiting, line_of_verdict, rule_of_decision, serial_named_by_rule_of_decision, exchange_gone_forward, exchange_after_second_forward, exchange_sent_forward_if_of_id, exchanges_after_wake, open_exchanges_after_event, exchange_released_by_timeout}
 use Rattle.proxy_core.specs.Starts.{StoreAtStart}
-use Rattle.proxy_core.specs.Traces.{Item, initial_state, state_after_trace, IsGood}
+use Rattle.proxy_core.specs.Traces.{Item, initial_state, state_after_trace, TraceIsGood}
 use Rattle.proxy_core.specs.Histories.{open_exchanges, IsGoodHistory}
-use Rattle.proxy_core.specs.Promises.{outcome_goes_forward, count_of_outcomes}
+use Rattle.proxy_core.specs.Promises.{outcome_goes_forward, count_of_outcomes_of_id}
 use Rattle.proxy_core.specs.Carrying.{is_arrival_or_wake, second_forward_item, ExchangeWentForwardOnce, ExchangeWentForwardASecondTime, HasWaitedSinceItsArrival, ExchangeWasJudged, RuleWasLeastWhenJudged, OpenExchangeRecordsHowItWasJudged}
 use Rattle.proxy_core.proofs.SentBeside.{led_over, sent_over, unless_sent}
 use Rattle.proxy_core.proofs.ExchangeLists.{overtaken_by, released_by, changed_by, find-map, find-push, find-gone_out, sent_out-id, found-id, find-purged, none_overtaken}
@@ -56,15 +56,15 @@ none_some (Some x) z h g = cc
 
 module _ (table : Table) (es : List Stored) (xs : List Exchange) (now : ℕ) (asked : Asked) where
   -- a rule stands against a stored response, and the request takes others too
-  pub record IsSentOn (line : RequestRoute) : Type 0 where
+  pub record IsSentOn (line : RouteOverLine) : Type 0 where
     pub line_allows : verdict_of_asked table asked ≡ verdict.Allowed line
     pub rule : ReuseRule
     pub against : Option ℕ
     pub decided : decision_of (policy_of table.lines line) es asked now ≡ decision.Forward rule against
 
-  pub record WentBy (line : RequestRoute) (bytes : List ℕ) : Type 0 where
+  pub record WentBy (line : RouteOverLine) (bytes : List ℕ) : Type 0 where
     pub on : IsSentOn line
-    pub bytes_are : bytes ≡ forward_text table line asked (condition_about_serial es on.against)
+    pub bytes_are : bytes ≡ forward_text table line asked (condition_to_revalidate_serial es on.against)
 
   -- what a request that arrives does, where it isn't answered
   Goes : Outcome → Type 0
@@ -82,15 +82,15 @@ module _ (table : Table) (es : List Stored) (xs : List Exchange) (now : ℕ) (as
       on rule against d = record { line_allows = v; rule = rule; against = against; decided = d }
 
       led : (rule : ReuseRule) (against leader : Option ℕ) → decision_of (policy_of table.lines n) es asked now ≡ decision.Forward rule against →
-          Goes (outcome_of_waiting_or_forwarding table n asked (condition_about_serial es against) leader)
+          Goes (outcome_of_waiting_or_forwarding table n asked (condition_to_revalidate_serial es against) leader)
       led rule against None d = record { on = on rule against d; bytes_are = refl }
       led rule against (Some leader) d = subst IsSentOn (sym (ap line_of_verdict v)) (on rule against d)
 
       unless : (rule : ReuseRule) (against : Option ℕ) (b : Bool) → decision_of (policy_of table.lines n) es asked now ≡ decision.Forward rule against →
-          Goes (outcome_without_stored_response table es xs n now asked rule (condition_about_serial es against) b)
+          Goes (outcome_where_reuse_rule_applies table es xs n now asked rule (condition_to_revalidate_serial es against) b)
       unless rule against true d = tt
       unless rule against false d =
-          unless_sent Goes table es n now asked (sent_over table es xs n now asked rule) (outcome_of_waiting_or_forwarding table n asked (condition_about_serial es against) (led_over table es xs n asked rule))
+          unless_sent Goes table es n now asked (sent_over table es xs n now asked rule) (outcome_of_waiting_or_forwarding table n asked (condition_to_revalidate_serial es against) (led_over table es xs n asked rule))
           (λ t is. tt) (led rule against (led_over table es xs n asked rule) d)
 
       by_decision : (d : Decision) → decision_of (policy_of table.lines n) es asked now ≡ d → Goes (outcome_of_allowed_request table es xs n now asked d)
@@ -119,24 +119,24 @@ again_by table es now x r next d = by_304 (is_304_to_own_conditions x r)
     by_validation None (decision.Hit s) = tt
     by_validation None (decision.Forward rule against) = (refl, refl)
 
-    by_fallback : (fallback : Fallback) → IsAgain table x (outcome_of_failure table es now x BadAnswer (Some r.status) fallback)
+    by_fallback : (fallback : FallbackDecision) → IsAgain table x (outcome_of_failure table es now x BadAnswer (Some r.status) fallback)
     by_fallback (Sends s detail) = tt
     by_fallback (Refuses rule error) = tt
 
-    by_error : (b : Bool) (fallback : Fallback) → IsAgain table x (outcome_of_passing_on_or_stale table es now x r next b fallback)
+    by_error : (b : Bool) (fallback : FallbackDecision) → IsAgain table x (outcome_of_passing_on_or_stale table es now x r next b fallback)
     by_error true (Sends s detail) = tt
     by_error true (Refuses rule error) = tt
     by_error false fallback = tt
 
     by_unasked : (b : Bool) → IsAgain table x (cond b (outcome_of_failure table es now x BadAnswer (Some r.status) (fallback_for_failed_answer (policy_of table.lines x.line) es x.asked now d))
-        (outcome_of_passing_on_or_stale table es now x r next (is_error_status r.status) (fallback_for_failed_answer (policy_of table.lines x.line) es x.asked now d)))
+        (outcome_of_passing_on_or_stale table es now x r next (is_stale_if_error_status r.status) (fallback_for_failed_answer (policy_of table.lines x.line) es x.asked now d)))
     by_unasked true = by_fallback (fallback_for_failed_answer (policy_of table.lines x.line) es x.asked now d)
-    by_unasked false = by_error (is_error_status r.status) (fallback_for_failed_answer (policy_of table.lines x.line) es x.asked now d)
+    by_unasked false = by_error (is_stale_if_error_status r.status) (fallback_for_failed_answer (policy_of table.lines x.line) es x.asked now d)
 
-    by_304 : (b : Bool) → IsAgain table x (cond b (outcome_of_304 table es now x r (stored_response_validated es x r now) d)
+    by_304 : (b : Bool) → IsAgain table x (cond b (outcome_of_304 table es now x r (stored_response_validated_by_304 es x r now) d)
         (cond (is_304_without_condition (policy_of table.lines x.line) x.asked r) (outcome_of_failure table es now x BadAnswer (Some r.status) (fallback_for_failed_answer (policy_of table.lines x.line) es x.asked now d))
-        (outcome_of_passing_on_or_stale table es now x r next (is_error_status r.status) (fallback_for_failed_answer (policy_of table.lines x.line) es x.asked now d))))
-    by_304 true = by_validation (stored_response_validated es x r now) d
+        (outcome_of_passing_on_or_stale table es now x r next (is_stale_if_error_status r.status) (fallback_for_failed_answer (policy_of table.lines x.line) es x.asked now d))))
+    by_304 true = by_validation (stored_response_validated_by_304 es x r now) d
     by_304 false = by_unasked (is_304_without_condition (policy_of table.lines x.line) x.asked r)
 
 -- ---- an item more
@@ -165,8 +165,8 @@ module _ (table : Table) (start : StoreAtStart) where
     went = by_going h.went;
   }
     where
-      uncounted : (items : List Item) → count_of_outcomes outcome_goes_forward x.id items ≡ 0 → count_of_outcomes outcome_goes_forward x.id (i ∷ items) ≡ 0
-      uncounted items z = ap (λ b. cond b (count_of_outcomes outcome_goes_forward x.id items + 1) (count_of_outcomes outcome_goes_forward x.id items)) n ∙ z
+      uncounted : (items : List Item) → count_of_outcomes_of_id outcome_goes_forward x.id items ≡ 0 → count_of_outcomes_of_id outcome_goes_forward x.id (i ∷ items) ≡ 0
+      uncounted items z = ap (λ b. cond b (count_of_outcomes_of_id outcome_goes_forward x.id items + 1) (count_of_outcomes_of_id outcome_goes_forward x.id items)) n ∙ z
 
       by_going : Went x h.since h.before h.now h.item.outcome → Went x (i ∷ h.since) h.before h.now h.item.outcome
       by_going (inl w) = inl (record {
@@ -307,19 +307,19 @@ module _ (table : Table) (start : StoreAtStart) where
         condition = w.condition;
       }))
 
-  overtakes : (key : Scope) (z : Exchange) (past : List Item) → ExchangeWasJudged table start z past → ExchangeWasJudged table start (overtaken_exchange key z) past
+  overtakes : (key : Scope) (z : Exchange) (past : List Item) → ExchangeWasJudged table start z past → ExchangeWasJudged table start (exchange_overtaken_if_in_scope key z) past
   overtakes key z past h = elim (key_is_in_scope key z.asked.target.key) as (λ b. ExchangeWasJudged table start (cond b (record z { overtaken = true }) z) past) [
     | true ↦ marked z past h
     | false ↦ h
   ]
 
-  overtake_id : (key : Scope) (z : Exchange) → (overtaken_exchange key z).id ≡ z.id
+  overtake_id : (key : Scope) (z : Exchange) → (exchange_overtaken_if_in_scope key z).id ≡ z.id
   overtake_id key z = elim (key_is_in_scope key z.asked.target.key) as (λ b. (cond b (record z { overtaken = true }) z).id ≡ z.id) [
     | true ↦ refl
     | false ↦ refl
   ]
 
-  releases : (i : ℕ) (z : Exchange) (past : List Item) → ExchangeWasJudged table start z past → ExchangeWasJudged table start (released_exchange i z) past
+  releases : (i : ℕ) (z : Exchange) (past : List Item) → ExchangeWasJudged table start z past → ExchangeWasJudged table start (exchange_released_from_leader i z) past
   releases i z past h = by_test (waits_for i z.stage) refl
     where
       not_out : (s : Stage) → waits_for i s ≡ true → is_forwarded s ≡ false
@@ -331,7 +331,7 @@ module _ (table : Table) (start : StoreAtStart) where
       by_test true waits = freed z past (not_out z.stage waits) h
       by_test false waits = h
 
-  release_id : (i : ℕ) (z : Exchange) → (released_exchange i z).id ≡ z.id
+  release_id : (i : ℕ) (z : Exchange) → (exchange_released_from_leader i z).id ≡ z.id
   release_id i z = elim (waits_for i z.stage) as (λ b. (cond b (record z { stage = Released }) z).id ≡ z.id) [
     | true ↦ refl
     | false ↦ refl
@@ -347,7 +347,7 @@ module _ (table : Table) (start : StoreAtStart) where
   carried_released id past (Some i) None x f h = absurd (cc)
   carried_released id past (Some i) (Some z) x f h =
       let c = f z refl in
-      let same : released_exchange i z ≡ x = same_Some (released_exchange i z) x h in
+      let same : exchange_released_from_leader i z ≡ x = same_Some (exchange_released_from_leader i z) x h in
       subst (Carried id past) same (releases i z past c.0, release_id i z ∙ c.1)
 
   carried_overtaken : (id : ℕ) (past : List Item) (key : Option Scope) (o : Option Exchange) (x : Exchange) →
@@ -356,7 +356,7 @@ module _ (table : Table) (start : StoreAtStart) where
   carried_overtaken id past (Some key) None x f h = absurd (cc)
   carried_overtaken id past (Some key) (Some z) x f h =
       let c = f z refl in
-      let same : overtaken_exchange key z ≡ x = same_Some (overtaken_exchange key z) x h in
+      let same : exchange_overtaken_if_in_scope key z ≡ x = same_Some (exchange_overtaken_if_in_scope key z) x h in
       subst (Carried id past) same (overtakes key z past c.0, overtake_id key z ∙ c.1)
 
   carried_apart : (id : ℕ) (i : Item) (past : List Item) (key : Option Scope) (gone : Option ℕ) (o : Option Exchange) (x : Exchange) → eqb (exchange_id_of_event i.event) id ≡ false →
@@ -395,9 +395,9 @@ module _ (table : Table) (start : StoreAtStart) (first : ℕ) where
   exchange id past = find_exchange id (state_after_trace (initial_state table start first) past).exchanges
 
   -- at the arrival
-  carried_first : (past : List Item) → IsGood (initial_state table start first) past → (now id : ℕ) (asked : Asked) (o : Outcome) (x : Exchange) →
+  carried_first : (past : List Item) → TraceIsGood (initial_state table start first) past → (now id : ℕ) (asked : Asked) (o : Outcome) (x : Exchange) →
       Goes table (state_after_trace (initial_state table start first) past).entries (state_after_trace (initial_state table start first) past).exchanges now asked o → exchange id past ≡ None →
-      find_exchange id (open_exchanges_after table (state_after_trace (initial_state table start first) past).entries (state_after_trace (initial_state table start first) past).exchanges (Arrive now id asked) o) ≡ Some x →
+      find_exchange id (open_exchanges_after_event table (state_after_trace (initial_state table start first) past).entries (state_after_trace (initial_state table start first) past).exchanges (Arrive now id asked) o) ≡ Some x →
       Carried table start id (record { event = Arrive now id asked; outcome = o } ∷ past) x
   unfolding Goes
   carried_first past g now id asked (Reply r) x h free found =
@@ -409,12 +409,12 @@ module _ (table : Table) (start : StoreAtStart) (first : ℕ) where
   carried_first past g now id asked (Waits leader) x on free found =
       let s = state_after_trace (initial_state table start first) past in
       let line = line_of_verdict (verdict_of_asked table asked) in
-      let y = waiting_exchange table s.entries now id asked line leader in
+      let y = exchange_begun_waiting table s.entries now id asked line leader in
       let here : y ≡ x = same_Some y x (sym (find-push id s.exchanges y free ∙ ap (λ b. cond b (Some y) (find_exchange id s.exchanges)) (eq-eqb id id refl)) ∙ found) in
       let held = entries_are_held table start first past g in
       let named = names_the_least (policy_of table.lines line) s.entries asked now on.rule on.against on.decided in
       let rule : y.rule ≡ on.rule = ap rule_of_decision on.decided in
-      let condition : y.condition ≡ condition_about_serial s.entries on.against = ap (λ (d : Decision). condition_about_serial s.entries (serial_named_by_decision d)) on.decided in
+      let condition : y.condition ≡ condition_to_revalidate_serial s.entries on.against = ap (λ (d : Decision). condition_to_revalidate_serial s.entries (serial_named_by_rule_of_decision d)) on.decided in
       subst (Carried table start id (record { event = Arrive now id asked; outcome = Waits leader } ∷ past)) here (
         record {
           since = [];
@@ -433,7 +433,7 @@ module _ (table : Table) (start : StoreAtStart) (first : ℕ) where
             no_forward_since = refl;
             against = on.against;
             names = subst (λ (es : List Stored). RuleOnChosenNamesItsSerial es asked y.rule on.against) held (subst (λ (q : ReuseRule). RuleOnChosenNamesItsSerial s.entries asked q on.against) (sym rule) named.1);
-            condition = condition ∙ ap (λ (es : List Stored). condition_about_serial es on.against) held;
+            condition = condition ∙ ap (λ (es : List Stored). condition_to_revalidate_serial es on.against) held;
           }));
         },
         refl,
@@ -446,7 +446,7 @@ module _ (table : Table) (start : StoreAtStart) (first : ℕ) where
       let held = entries_are_held table start first past g in
       let named = names_the_least (policy_of table.lines line) s.entries asked now on.rule on.against on.decided in
       let rule : y.rule ≡ on.rule = ap rule_of_decision on.decided in
-      let condition : y.condition ≡ condition_about_serial s.entries on.against = ap (λ (d : Decision). condition_about_serial s.entries (serial_named_by_decision d)) on.decided in
+      let condition : y.condition ≡ condition_to_revalidate_serial s.entries on.against = ap (λ (d : Decision). condition_to_revalidate_serial s.entries (serial_named_by_rule_of_decision d)) on.decided in
       subst (Carried table start id (record { event = Arrive now id asked; outcome = Forward line bytes } ∷ past)) here (
         record {
           since = [];
@@ -464,7 +464,7 @@ module _ (table : Table) (start : StoreAtStart) (first : ℕ) where
             request_time = refl;
             against = on.against;
             names = subst (λ (es : List Stored). RuleOnChosenNamesItsSerial es asked y.rule on.against) held (subst (λ (q : ReuseRule). RuleOnChosenNamesItsSerial s.entries asked q on.against) (sym rule) named.1);
-            condition = condition ∙ ap (λ (es : List Stored). condition_about_serial es on.against) held;
+            condition = condition ∙ ap (λ (es : List Stored). condition_to_revalidate_serial es on.against) held;
             outcome_is = ap (λ (b : List ℕ). Forward line b) (w.bytes_are ∙ ap (forward_text table line asked) (sym condition));
           });
         },
@@ -472,30 +472,30 @@ module _ (table : Table) (start : StoreAtStart) (first : ℕ) where
       )
 
   -- when it is woken
-  carried_woken : (past : List Item) → IsGood (initial_state table start first) past → (now id : ℕ) (z : Exchange) (o : Outcome) (x : Exchange) (d : Decision) → Carried table start id past z →
+  carried_woken : (past : List Item) → TraceIsGood (initial_state table start first) past → (now id : ℕ) (z : Exchange) (o : Outcome) (x : Exchange) (d : Decision) → Carried table start id past z →
       exchange id past ≡ Some z → decision_of (policy_of table.lines z.line) (state_after_trace (initial_state table start first) past).entries z.asked now ≡ d → o ≡ outcome_of_wake table (state_after_trace (initial_state table start first) past).entries now z d →
       outcome_goes_forward o ≡ true →
-      find_exchange id (open_exchanges_after table (state_after_trace (initial_state table start first) past).entries (state_after_trace (initial_state table start first) past).exchanges (Wake now id) o) ≡ Some x →
+      find_exchange id (open_exchanges_after_event table (state_after_trace (initial_state table start first) past).entries (state_after_trace (initial_state table start first) past).exchanges (Wake now id) o) ≡ Some x →
       Carried table start id (record { event = Wake now id; outcome = o } ∷ past) x
   carried_woken past g now id z o x (decision.Hit t) c z_is d h out found = absurd (false≢true (sym (ap outcome_goes_forward h) ∙ out))
   carried_woken past g now id z o x (decision.Forward rule against) c z_is d h out found =
       let s = state_after_trace (initial_state table start first) past in
       let es = s.entries in
       let xs = s.exchanges in
-      let bytes = forward_text table z.line z.asked (condition_about_serial es against) in
+      let bytes = forward_text table z.line z.asked (condition_to_revalidate_serial es against) in
       let q = rule_of_decision (decision_of (policy_of table.lines z.line) es z.asked now) in
-      let m = serial_named_by_decision (decision_of (policy_of table.lines z.line) es z.asked now) in
-      let k = condition_about_serial es m in
+      let m = serial_named_by_rule_of_decision (decision_of (policy_of table.lines z.line) es z.asked now) in
+      let k = condition_to_revalidate_serial es m in
       let y = woken_form table es now z in
       let at : find_exchange id (exchanges_after_wake table es id now (find_exchange id xs) xs) ≡ Some y =
       ap (λ (w : Option Exchange). find_exchange id (exchanges_after_wake table es id now w xs)) z_is
-      ∙ (find-map (exchange_sent_forward id now q m k) (sent_out-id id now q m k) id xs
-      ∙ (ap (option_map (exchange_sent_forward id now q m k)) z_is ∙ ap (λ b. Some (cond b (exchange_gone_forward now q m k z) z)) (found-id id xs z z_is))) in
-      let here : y ≡ x = same_Some y x (sym at ∙ (ap (λ (o : Outcome). find_exchange id (open_exchanges_after table es xs (Wake now id) o)) (sym h) ∙ found)) in
+      ∙ (find-map (exchange_sent_forward_if_of_id id now q m k) (sent_out-id id now q m k) id xs
+      ∙ (ap (option_map (exchange_sent_forward_if_of_id id now q m k)) z_is ∙ ap (λ b. Some (cond b (exchange_gone_forward now q m k z) z)) (found-id id xs z z_is))) in
+      let here : y ≡ x = same_Some y x (sym at ∙ (ap (λ (o : Outcome). find_exchange id (open_exchanges_after_event table es xs (Wake now id) o)) (sym h) ∙ found)) in
       let held = entries_are_held table start first past g in
       let named = names_the_least (policy_of table.lines z.line) es z.asked now rule against d in
       let rule_is : y.rule ≡ rule = ap rule_of_decision d in
-      let condition : y.condition ≡ condition_about_serial es against = ap (λ (d : Decision). condition_about_serial es (serial_named_by_decision d)) d in
+      let condition : y.condition ≡ condition_to_revalidate_serial es against = ap (λ (d : Decision). condition_to_revalidate_serial es (serial_named_by_rule_of_decision d)) d in
       subst (Carried table start id (record { event = Wake now id; outcome = o } ∷ past)) here (
         record {
           since = [];
@@ -513,7 +513,7 @@ module _ (table : Table) (start : StoreAtStart) (first : ℕ) where
             request_time = refl;
             against = against;
             names = subst (λ (es : List Stored). RuleOnChosenNamesItsSerial es z.asked y.rule against) held (subst (λ (q : ReuseRule). RuleOnChosenNamesItsSerial es z.asked q against) (sym rule_is) named.1);
-            condition = condition ∙ ap (λ (es : List Stored). condition_about_serial es against) held;
+            condition = condition ∙ ap (λ (es : List Stored). condition_to_revalidate_serial es against) held;
             outcome_is = h ∙ ap (λ (c : Option Condition). Forward z.line (forward_text table z.line z.asked c)) (sym condition);
           });
         },
@@ -521,15 +521,15 @@ module _ (table : Table) (start : StoreAtStart) (first : ℕ) where
       )
 
   -- behind an answer
-  carried_again : (past : List Item) (now id : ℕ) (r : Response) (z : Exchange) (line : RequestRoute) (bytes : List ℕ) (x : Exchange) → Carried table start id past z →
+  carried_again : (past : List Item) (now id : ℕ) (r : Response) (z : Exchange) (line : RouteOverLine) (bytes : List ℕ) (x : Exchange) → Carried table start id past z →
       exchange id past ≡ Some z → IsAgain table z (Forward line bytes) →
-      find_exchange id (map (exchange_forwarded_again id now) (state_after_trace (initial_state table start first) past).exchanges) ≡ Some x →
+      find_exchange id (map (exchange_after_second_forward id now) (state_after_trace (initial_state table start first) past).exchanges) ≡ Some x →
       Carried table start id (record { event = Answer now id r; outcome = Forward line bytes } ∷ past) x
   carried_again past now id r z line bytes x c z_is goes found =
       let xs = (state_after_trace (initial_state table start first) past).exchanges in
       let h = c.0 in
       let y = out_again now z in
-      let here : y ≡ x = same_Some y x (sym (find-gone_out id now id xs ∙ ap (option_map (exchange_forwarded_again id now)) z_is ∙ ap (λ b. Some (cond b (out_again now z) z)) (found-id id xs z z_is)) ∙ found) in
+      let here : y ≡ x = same_Some y x (sym (find-gone_out id now id xs ∙ ap (option_map (exchange_after_second_forward id now)) z_is ∙ ap (λ b. Some (cond b (out_again now z) z)) (found-id id xs z z_is)) ∙ found) in
       let item : Item = record { event = Answer now id r; outcome = Forward line bytes } in
       let same : item ≡ second_forward_item table y now r =
       ap (λ n. record { event = Answer now n r; outcome = Forward line bytes }) (sym c.1)
@@ -564,8 +564,8 @@ module _ (table : Table) (start : StoreAtStart) (first : ℕ) where
 
   again_at : (past : List Item) (id : ℕ) (i : Item) (z x : Exchange) → Carried table start id past z → exchange id past ≡ Some z → eqb (exchange_id_of_event i.event) id ≡ true →
       is_arrival_or_wake i.event ≡ false → outcome_goes_forward i.outcome ≡ true →
-      i.outcome ≡ outcome_for_exchange table (state_after_trace (initial_state table start first) past).entries (state_after_trace (initial_state table start first) past).exchanges (exchange (exchange_id_of_event i.event) past) (state_after_trace (initial_state table start first) past).next i.event →
-      find_exchange id (open_exchanges_after table (state_after_trace (initial_state table start first) past).entries (state_after_trace (initial_state table start first) past).exchanges i.event i.outcome) ≡ Some x →
+      i.outcome ≡ outcome_of_event_at_exchange table (state_after_trace (initial_state table start first) past).entries (state_after_trace (initial_state table start first) past).exchanges (exchange (exchange_id_of_event i.event) past) (state_after_trace (initial_state table start first) past).next i.event →
+      find_exchange id (open_exchanges_after_event table (state_after_trace (initial_state table start first) past).entries (state_after_trace (initial_state table start first) past).exchanges i.event i.outcome) ≡ Some x →
       Carried table start id (i ∷ past) x
   again_at past id i z x c z_is same late out is found = by_event i.event i.outcome same late out is found
     where
@@ -579,7 +579,7 @@ module _ (table : Table) (start : StoreAtStart) (first : ℕ) where
       next = (state_after_trace (initial_state table start first) past).next
 
       by_answer : (now n : ℕ) (r : Response) (o : Outcome) → n ≡ id → outcome_goes_forward o ≡ true → o ≡ outcome_of_answer table es now z r next (decision_of (policy_of table.lines z.line) es z.asked now) →
-          find_exchange id (open_exchanges_after table es xs (Answer now n r) o) ≡ Some x → Carried table start id (record { event = Answer now n r; outcome = o } ∷ past) x
+          find_exchange id (open_exchanges_after_event table es xs (Answer now n r) o) ≡ Some x → Carried table start id (record { event = Answer now n r; outcome = o } ∷ past) x
       by_answer now n r (Reply reply) e out is found = absurd (false≢true out)
       by_answer now n r (Waits leader) e out is found = absurd (false≢true out)
       by_answer now n r Ended e out is found = absurd (false≢true out)
@@ -587,40 +587,40 @@ module _ (table : Table) (start : StoreAtStart) (first : ℕ) where
       by_answer now n r (Forward line bytes) e out is found =
           subst (λ m. Carried table start id (record { event = Answer now m r; outcome = Forward line bytes } ∷ past) x) (sym e)
           (carried_again past now id r z line bytes x c z_is (subst (IsAgain table z) (sym is) (again_by table es now z r next (decision_of (policy_of table.lines z.line) es z.asked now)))
-          (ap (λ m. find_exchange id (map (exchange_forwarded_again m now) xs)) (sym e) ∙ found))
+          (ap (λ m. find_exchange id (map (exchange_after_second_forward m now) xs)) (sym e) ∙ found))
 
       by_event : (event : Event) (o : Outcome) → eqb (exchange_id_of_event event) id ≡ true → is_arrival_or_wake event ≡ false → outcome_goes_forward o ≡ true →
-          o ≡ outcome_for_exchange table es xs (exchange (exchange_id_of_event event) past) next event → find_exchange id (open_exchanges_after table es xs event o) ≡ Some x →
+          o ≡ outcome_of_event_at_exchange table es xs (exchange (exchange_id_of_event event) past) next event → find_exchange id (open_exchanges_after_event table es xs event o) ≡ Some x →
           Carried table start id (record { event = event; outcome = o } ∷ past) x
       by_event (Arrive now n asked) o same late out is found = absurd (false≢true (sym late))
       by_event (Answer now n r) o same late out is found =
           let e : n ≡ id = eqb-true n id same in
-          by_answer now n r o e out (is ∙ ap (λ (w : Option Exchange). outcome_for_exchange table es xs w next (Answer now n r)) (ap (λ m. exchange m past) e ∙ z_is)) found
+          by_answer now n r o e out (is ∙ ap (λ (w : Option Exchange). outcome_of_event_at_exchange table es xs w next (Answer now n r)) (ap (λ m. exchange m past) e ∙ z_is)) found
       by_event (Fail now n kind) o same late out is found =
           let w : exchange n past ≡ Some z = ap (λ m. exchange m past) (eqb-true n id same) ∙ z_is in
           let back : outcome_goes_forward o ≡ false =
-          ap outcome_goes_forward (is ∙ ap (λ (w : Option Exchange). outcome_for_exchange table es xs w next (Fail now n kind)) w)
+          ap outcome_goes_forward (is ∙ ap (λ (w : Option Exchange). outcome_of_event_at_exchange table es xs w next (Fail now n kind)) w)
           ∙ failed_back table es now z kind None (fallback_for_failed_answer (policy_of table.lines z.line) es z.asked now (decision_of (policy_of table.lines z.line) es z.asked now)) in
           absurd (false≢true (sym back ∙ out))
       by_event (Wake now n) o same late out is found = absurd (false≢true (sym late))
       by_event (Abandon n) o same late out is found = absurd (false≢true (sym (ap outcome_goes_forward is) ∙ out))
       by_event (Overdue n) o same late out is found = absurd (false≢true (sym (ap outcome_goes_forward is) ∙ out))
 
-  pub carries : (past : List Item) → IsGood (initial_state table start first) past → (id : ℕ) (x : Exchange) → exchange id past ≡ Some x → Carried table start id past x
+  pub carries : (past : List Item) → TraceIsGood (initial_state table start first) past → (id : ℕ) (x : Exchange) → exchange id past ≡ Some x → Carried table start id past x
   carries [] g id x h = absurd (cc)
   carries (i ∷ past) g id x h = by_move (λ z q. carries past g.1 id z q) (exchange id (i ∷ past)) (move_of table (state_after_trace (initial_state table start first) past) i id (same_table (initial_state table start first) past) g.0) h refl
     where
       s : State
       s = state_after_trace (initial_state table start first) past
 
-      at_table : find_exchange id (open_exchanges_after table s.entries s.exchanges i.event i.outcome) ≡ exchange id (i ∷ past)
-      at_table = ap (λ (t : Table). find_exchange id (open_exchanges_after t s.entries s.exchanges i.event i.outcome)) (sym (same_table (initial_state table start first) past))
+      at_table : find_exchange id (open_exchanges_after_event table s.entries s.exchanges i.event i.outcome) ≡ exchange id (i ∷ past)
+      at_table = ap (λ (t : Table). find_exchange id (open_exchanges_after_event t s.entries s.exchanges i.event i.outcome)) (sym (same_table (initial_state table start first) past))
 
-      at_arrival : (now : ℕ) (asked : Asked) → i.event ≡ Arrive now id asked → exchange id past ≡ None → find_exchange id (open_exchanges_after table s.entries s.exchanges (Arrive now id asked) i.outcome) ≡ Some x →
+      at_arrival : (now : ℕ) (asked : Asked) → i.event ≡ Arrive now id asked → exchange id past ≡ None → find_exchange id (open_exchanges_after_event table s.entries s.exchanges (Arrive now id asked) i.outcome) ≡ Some x →
           Carried table start id (record { event = Arrive now id asked; outcome = i.outcome } ∷ past) x
       at_arrival now asked e x_is found =
           carried_first past g.1 now id asked i.outcome x
-          (subst (Goes table s.entries s.exchanges now asked) (sym (g.0.outcome_is ∙ ap (λ (v : Event). outcome_for_exchange table s.entries s.exchanges (find_exchange (exchange_id_of_event v) s.exchanges) s.next v) e))
+          (subst (Goes table s.entries s.exchanges now asked) (sym (g.0.outcome_is ∙ ap (λ (v : Event). outcome_of_event_at_exchange table s.entries s.exchanges (find_exchange (exchange_id_of_event v) s.exchanges) s.next v) e))
           (goes_by table s.entries s.exchanges now asked (verdict_of_asked table asked) refl)) x_is found
 
       by_move : ((z : Exchange) → exchange id past ≡ Some z → Carried table start id past z) → (y : Option Exchange) → Move id (find_exchange (exchange_id_of_event i.event) s.exchanges) i.event i.outcome (exchange id past) y → y ≡ Some x → exchange id (i ∷ past) ≡ y →
@@ -630,11 +630,11 @@ module _ (table : Table) (start : StoreAtStart) (first : ℕ) where
       by_move was y (opens at es now asked line e x_is f q) h k =
           let item : record { event = Arrive now id asked; outcome = i.outcome } ≡ i = ap (λ (v : Event). record { event = v; outcome = i.outcome }) (sym e) in
           subst (λ (j : Item). Carried table start id (j ∷ past) x) item
-          (at_arrival now asked e x_is (ap (λ (v : Event). find_exchange id (open_exchanges_after table s.entries s.exchanges v i.outcome)) (sym e) ∙ at_table ∙ k ∙ h))
+          (at_arrival now asked e x_is (ap (λ (v : Event). find_exchange id (open_exchanges_after_event table s.entries s.exchanges v i.outcome)) (sym e) ∙ at_table ∙ k ∙ h))
       by_move was y (queues at es now asked line leader e x_is f l q) h k =
           let item : record { event = Arrive now id asked; outcome = i.outcome } ≡ i = ap (λ (v : Event). record { event = v; outcome = i.outcome }) (sym e) in
           subst (λ (j : Item). Carried table start id (j ∷ past) x) item
-          (at_arrival now asked e x_is (ap (λ (v : Event). find_exchange id (open_exchanges_after table s.entries s.exchanges v i.outcome)) (sym e) ∙ at_table ∙ k ∙ h))
+          (at_arrival now asked e x_is (ap (λ (v : Event). find_exchange id (open_exchanges_after_event table s.entries s.exchanges v i.outcome)) (sym e) ∙ at_table ∙ k ∙ h))
       by_move was y (passes t e x_is f q) h k = absurd (none_some y x q h)
       by_move was y (again z now t e z_is c f q j r) h k =
           again_at past id i z x (was z z_is) z_is t j f g.0.outcome_is (at_table ∙ k ∙ h)
@@ -642,13 +642,13 @@ module _ (table : Table) (start : StoreAtStart) (first : ℕ) where
           let item : record { event = Wake now id; outcome = i.outcome } ≡ i = ap (λ (v : Event). record { event = v; outcome = i.outcome }) (sym e) in
           subst (λ (j : Item). Carried table start id (j ∷ past) x) item
           (carried_woken past g.1 now id z i.outcome x (decision_of (policy_of table.lines z.line) s.entries z.asked now) (was z z_is) z_is refl
-          (g.0.outcome_is ∙ (ap (λ (v : Event). outcome_for_exchange table s.entries s.exchanges (find_exchange (exchange_id_of_event v) s.exchanges) s.next v) e ∙ ap (λ (w : Option Exchange). outcome_for_exchange table s.entries s.exchanges w s.next (Wake now id)) z_is)) f
-          (ap (λ (v : Event). find_exchange id (open_exchanges_after table s.entries s.exchanges v i.outcome)) (sym e) ∙ at_table ∙ k ∙ h))
+          (g.0.outcome_is ∙ (ap (λ (v : Event). outcome_of_event_at_exchange table s.entries s.exchanges (find_exchange (exchange_id_of_event v) s.exchanges) s.next v) e ∙ ap (λ (w : Option Exchange). outcome_of_event_at_exchange table s.entries s.exchanges w s.next (Wake now id)) z_is)) f
+          (ap (λ (v : Event). find_exchange id (open_exchanges_after_event table s.entries s.exchanges v i.outcome)) (sym e) ∙ at_table ∙ k ∙ h))
       by_move was y (closes z t e x_is f q) h k = absurd (none_some y x q h)
       by_move was y (turns z j m e n z_is r f q) h k =
           let same : record z { stage = Waiting m } ≡ x = same_Some (record z { stage = Waiting m }) x (sym q ∙ h) in
           let there : find_exchange id (exchanges_after_abandon table j s.exchanges) ≡ Some (record z { stage = Waiting m }) =
-          ap (λ (v : Event). find_exchange id (open_exchanges_after table s.entries s.exchanges v i.outcome)) (sym e) ∙ at_table ∙ k ∙ q in
+          ap (λ (v : Event). find_exchange id (open_exchanges_after_event table s.entries s.exchanges v i.outcome)) (sym e) ∙ at_table ∙ k ∙ q in
           let ends = turned_has_an_end table j id m s.exchanges z z_is n r there in
           subst (Carried table start id (i ∷ past)) same (carried_turned table start id i past z j m e f (waits_waiting j z.stage r) ends (was z z_is))
       by_move was y (lapses z e z_is s f q) h k =

@@ -11,7 +11,7 @@ use Rattle.hx_allow.specs.Matching.{policy_of}
 use Rattle.hx_allow.specs.TableLines.{Table}
 use Rattle.hx_hop.specs.declared.request_view.Asked.{Asked}
 use Rattle.hx_reuse.specs.Conditions.{withholds_conditions}
-use Rattle.hx_reuse.specs.FilledRanges.{request_sent_to_origin}
+use Rattle.hx_reuse.specs.FilledRanges.{request_without_filled_range}
 use Rattle.hx_validate.specs.NotModified.{answer_gets_304}
 use Rattle.hx_validate.proofs.ClientConditions.{false_gets_304, no_other_gets_304}
 use Rattle.proxy_core.specs.declared.open.exchange.Exchange.{Exchange}
@@ -22,7 +22,7 @@ use Rattle.proxy_core.specs.Histories.{next_serial, open_exchanges}
 use Rattle.proxy_core.specs.KeptConditions.{AnswerWhereConditionsWereWithheld, Unrequested304IsAnOriginFailure, FalseConditionGetsA304, WithheldConditionLeadsLikeNone, NoClientsConditionGoesForward, TrueOrNoConditionGetsTheAnswer}
 use Rattle.proxy_core.specs.Naming.{AnswerNamesItsRule, AnswerNamesFirstRule}
 use Rattle.proxy_core.specs.Outcomes.{exchange_id_of_event, find_exchange}
-use Rattle.proxy_core.specs.Replies.{answer_in_range_text, client_wants_304_for_answer, not_modified_answer_text, passed_answer_text, range_of_answer}
+use Rattle.proxy_core.specs.Replies.{text_of_answer_or_its_range, client_wants_304_for_answer, not_modified_answer_text, passed_answer_text, part_of_answer_to_send}
 use Rattle.proxy_core.specs.Starts.{StoreAtStart}
 use Rattle.proxy_core.specs.Storing.{storing_rule_to_explain}
 use Rattle.proxy_core.specs.Traces.{Item}
@@ -46,12 +46,12 @@ module _ (table : Table) (start : StoreAtStart) (first now : ℕ) (item : Item) 
 
   shown : (has : Bool) → answer_gets_304 x.asked r.status (answered_of r now).fields ≡ has
       → reply.bytes ≡ cond has (not_modified_answer_text (policy_of table.lines x.line) table.name x r now (is_some reply.stored) (storing_rule_to_explain table x r now (next_serial first past)))
-      (answer_in_range_text (policy_of table.lines x.line) table.name x r now (is_some reply.stored) (storing_rule_to_explain table x r now (next_serial first past)) (range_of_answer (policy_of table.lines x.line) x r now))
+      (text_of_answer_or_its_range (policy_of table.lines x.line) table.name x r now (is_some reply.stored) (storing_rule_to_explain table x r now (next_serial first past)) (part_of_answer_to_send (policy_of table.lines x.line) x r now))
   shown has e =
       let test : client_wants_304_for_answer (policy_of table.lines x.line) x r now ≡ has = ap (λ b. b && answer_gets_304 x.asked r.status (answered_of r now).fields) is.keeps ∙ e in
       passed
       ∙ ap (λ b. cond b (not_modified_answer_text (policy_of table.lines x.line) table.name x r now (is_some reply.stored) (storing_rule_to_explain table x r now (next_serial first past)))
-      (answer_in_range_text (policy_of table.lines x.line) table.name x r now (is_some reply.stored) (storing_rule_to_explain table x r now (next_serial first past)) (range_of_answer (policy_of table.lines x.line) x r now))) test
+      (text_of_answer_or_its_range (policy_of table.lines x.line) table.name x r now (is_some reply.stored) (storing_rule_to_explain table x r now (next_serial first past)) (part_of_answer_to_send (policy_of table.lines x.line) x r now))) test
 
 pub answers_304 : FalseConditionGetsA304
 answers_304 table start first now item past x r reply is false_condition =
@@ -61,14 +61,14 @@ pub answers_in_range : TrueOrNoConditionGetsTheAnswer
 answers_in_range table start first now item past x r reply is other = by_test (answer_gets_304 x.asked r.status (answered_of r now).fields) refl
   where
     by_test : (has : Bool) → answer_gets_304 x.asked r.status (answered_of r now).fields ≡ has
-        → reply.bytes ≡ answer_in_range_text (policy_of table.lines x.line) table.name x r now (is_some reply.stored) (storing_rule_to_explain table x r now (next_serial first past)) (range_of_answer (policy_of table.lines x.line) x r now)
+        → reply.bytes ≡ text_of_answer_or_its_range (policy_of table.lines x.line) table.name x r now (is_some reply.stored) (storing_rule_to_explain table x r now (next_serial first past)) (part_of_answer_to_send (policy_of table.lines x.line) x r now)
     by_test true e = absurd (other (no_other_gets_304 x.asked r.status (answered_of r now).fields e))
     by_test false e = shown table start first now item past x r reply is false e
 
 pub forwards_no_condition : NoClientsConditionGoesForward
 unfolding forwarded_of
 forwards_no_condition table line asked keeps =
-    let sent : Asked = request_sent_to_origin (policy_of table.lines line) asked in
+    let sent : Asked = request_without_filled_range (policy_of table.lines line) asked in
     (forwarded_of true sent table.name None, ap (λ k. request_text (forwarded_of k sent table.name None)) keeps, (keeps_conditions_behind sent table.name).0, (keeps_conditions_behind sent table.name).1)
 
 pub leads_as_others : WithheldConditionLeadsLikeNone

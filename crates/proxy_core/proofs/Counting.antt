@@ -8,11 +8,11 @@ use Rattle.proxy_core.specs.declared.open.exchange.Exchange.{Exchange}
 use Rattle.proxy_core.specs.declared.outcome.Outcome.{Outcome}
 use Rattle.proxy_core.specs.declared.event.Event.{Event}
 use Rattle.proxy_core.specs.Outcomes.{outcome_of_event}
-use Rattle.proxy_core.specs.State.{serial_stored_by_outcome, next_serial_after}
+use Rattle.proxy_core.specs.State.{serial_stored_by_outcome, next_serial_after_storing}
 use Rattle.proxy_core.specs.Starts.{StoreAtStart}
 use Rattle.proxy_core.specs.Traces.{Item, initial_state, state_after_trace}
 use Rattle.proxy_core.specs.Histories.{IsGoodHistory, next_serial, held_entries, open_exchanges}
-use Rattle.proxy_core.specs.TraceMeaning.{count_of_stored, events_of_trace, NextSerialIsFirstPlusStoredCount, StoredResponseHasTheNextSerial, EventsDetermineTheTrace}
+use Rattle.proxy_core.specs.TraceMeaning.{count_of_items_that_store, events_of_trace, NextSerialIsFirstPlusStoredCount, StoredResponseHasTheNextSerial, EventsDetermineTheTrace}
 use Rattle.proxy_core.proofs.StepKinds.{Kind, idle, uses, stores, kind_in}
 use Rattle.proxy_core.proofs.HeldLaw.{good_plain, stands_for, next_is_counted}
 
@@ -41,7 +41,7 @@ left_over_is n s h = by_test (nat_lt n (2 ^ 64)) h
     by_test false h = absurd (cc)
 
 more_stored : (first count : ℕ) (next st : Option ℕ) → next ≡ left_over (first + count) → ((s : ℕ) → st ≡ Some s → next ≡ Some s) →
-    next_serial_after next st ≡ left_over (first + cond (is_some st) (count + 1) count)
+    next_serial_after_storing next st ≡ left_over (first + cond (is_some st) (count + 1) count)
 more_stored first count next None h k = h
 more_stored first count next (Some s) h k =
     let same : s ≡ first + count = left_over_is (first + count) s (sym h ∙ k s refl) in
@@ -53,12 +53,12 @@ next_counted table start first [] g h =
     let none : first ≡ first + 0 = omega arith in
     sym (ap (λ b. cond b (Some first) None) h) ∙ ap left_over none
 next_counted table start first (i ∷ past) g h =
-    more_stored first (count_of_stored past) (next_serial first past) (serial_stored_by_outcome i.outcome) (next_counted table start first past g.1 h)
+    more_stored first (count_of_items_that_store past) (next_serial first past) (serial_stored_by_outcome i.outcome) (next_counted table start first past g.1 h)
     (λ s e. stored_next table start first s i past g e)
 
 pub stored_has_the_next : StoredResponseHasTheNextSerial
 stored_has_the_next table start first s i past g h e =
-    left_over_is (first + count_of_stored past) s (sym (next_counted table start first past g.1 h) ∙ stored_next table start first s i past g e)
+    left_over_is (first + count_of_items_that_store past) s (sym (next_counted table start first past g.1 h) ∙ stored_next table start first s i past g e)
 
 -- ---- no choice
 

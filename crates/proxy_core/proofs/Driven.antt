@@ -3,7 +3,7 @@ use Rattle.std.proofs.Common.{◌≡◌, ℕ, List, [], ◌∷◌, ◌∙◌, ap
 use Rattle.hx_allow.specs.TableLines.{Table}
 use Rattle.proxy_core.specs.State.{State, StepIsAccepted, state_after_event}
 use Rattle.proxy_core.specs.Starts.{StoreAtStart}
-use Rattle.proxy_core.specs.Traces.{Item, initial_state, state_after_trace, ItemIsAccepted, IsGood}
+use Rattle.proxy_core.specs.Traces.{Item, initial_state, state_after_trace, ItemIsAccepted, TraceIsGood}
 use Rattle.proxy_core.specs.Driving.{CoreHasRunTrace, EachDrivenCoreKeepsThePromises}
 use Rattle.proxy_core.proofs.Tracing.{same_table, same_limit}
 use Rattle.proxy_core.proofs.HeldLaw.{good_held, entries_are_held, exchanges_are_open, next_is_counted}
@@ -11,7 +11,7 @@ use Rattle.proxy_core.proofs.Headlines.{headline}
 
 -- good over the list that the core keeps
 record IsDriven (table : Table) (start : StoreAtStart) (first : ℕ) (trace : List Item) (core : State) : Type 0 where
-  good : IsGood (initial_state table start first) trace
+  good : TraceIsGood (initial_state table start first) trace
   leaves : core ≡ state_after_trace (initial_state table start first) trace
 
 driven : (table : Table) (start : StoreAtStart) (first : ℕ) (trace : List Item) (core : State) → CoreHasRunTrace table start first trace core → IsDriven table start first trace core

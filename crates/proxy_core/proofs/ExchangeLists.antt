@@ -11,9 +11,9 @@ use Rattle.proxy_core.specs.declared.open.stage.Stage.TheVariants.{Released}
 use Rattle.hx_allow.specs.TableLines.{Table}
 use Rattle.proxy_core.specs.declared.open.as_next_leader.NextLeader.{NextLeader}
 use Rattle.proxy_core.specs.Leading.{waits_for, is_waiting}
-use Rattle.proxy_core.specs.LeadingOn.{next_leader, stage_after_leader, after_abandon, exchanges_without, exchanges_after_abandon}
+use Rattle.proxy_core.specs.LeadingOn.{next_leader, stage_after_leader, waiter_after_abandon, exchanges_without, exchanges_after_abandon}
 use Rattle.proxy_core.specs.Scopes.{Scope, key_is_in_scope}
-use Rattle.proxy_core.specs.State.{exchanges_after_close, released_exchange, overtaken_exchange, exchanges_after_end, exchanges_after_purge, exchange_gone_forward, exchange_forwarded_again, exchange_sent_forward, exchange_released_by_timeout, overdue_exchange}
+use Rattle.proxy_core.specs.State.{exchanges_after_end_and_release, exchange_released_from_leader, exchange_overtaken_if_in_scope, exchanges_after_exchange_end, exchanges_overtaken_in_scope, exchange_gone_forward, exchange_after_second_forward, exchange_sent_forward_if_of_id, exchange_released_by_timeout, exchange_after_wait_timeout}
 
 pub find-map : (f : Exchange → Exchange) → ((x : Exchange) → (f x).id ≡ x.id) → (id : ℕ) (xs : List Exchange) →
     find_exchange id (map f xs) ≡ option_map f (find_exchange id xs)
@@ -25,62 +25,62 @@ find-map f k id (x ∷ xs) =
       | false ↦ find-map f k id xs
     ]
 
-pub gone_out-id : (i now : ℕ) (x : Exchange) → (exchange_forwarded_again i now x).id ≡ x.id
+pub gone_out-id : (i now : ℕ) (x : Exchange) → (exchange_after_second_forward i now x).id ≡ x.id
 gone_out-id i now x = elim (eqb x.id i) as (λ b. (cond b (exchange_gone_forward now x.rule x.named None x) x).id ≡ x.id) [
   | true ↦ refl
   | false ↦ refl
 ]
 
-pub sent_out-id : (i now : ℕ) (rule : ReuseRule) (named : Option ℕ) (condition : Option Condition) (x : Exchange) → (exchange_sent_forward i now rule named condition x).id ≡ x.id
+pub sent_out-id : (i now : ℕ) (rule : ReuseRule) (named : Option ℕ) (condition : Option Condition) (x : Exchange) → (exchange_sent_forward_if_of_id i now rule named condition x).id ≡ x.id
 sent_out-id i now rule named condition x = elim (eqb x.id i) as (λ b. (cond b (exchange_gone_forward now rule named condition x) x).id ≡ x.id) [
   | true ↦ refl
   | false ↦ refl
 ]
 
-pub release-id : (i : ℕ) (x : Exchange) → (released_exchange i x).id ≡ x.id
+pub release-id : (i : ℕ) (x : Exchange) → (exchange_released_from_leader i x).id ≡ x.id
 release-id i x = elim (waits_for i x.stage) as (λ b. (cond b (record x { stage = Released }) x).id ≡ x.id) [
   | true ↦ refl
   | false ↦ refl
 ]
 
-pub led_on-id : (table : Table) (next : Option NextLeader) (i : ℕ) (x : Exchange) → (after_abandon table next i x).id ≡ x.id
+pub led_on-id : (table : Table) (next : Option NextLeader) (i : ℕ) (x : Exchange) → (waiter_after_abandon table next i x).id ≡ x.id
 led_on-id table next i x = elim (waits_for i x.stage) as (λ b. (cond b (record x { stage = stage_after_leader table next x }) x).id ≡ x.id) [
   | true ↦ refl
   | false ↦ refl
 ]
 
-pub overdue-id : (i : ℕ) (x : Exchange) → (overdue_exchange i x).id ≡ x.id
+pub overdue-id : (i : ℕ) (x : Exchange) → (exchange_after_wait_timeout i x).id ≡ x.id
 overdue-id i x = elim (eqb x.id i && is_waiting x.stage) as (λ b. (cond b (exchange_released_by_timeout x) x).id ≡ x.id) [
   | true ↦ refl
   | false ↦ refl
 ]
 
-pub overtake-id : (key : Scope) (x : Exchange) → (overtaken_exchange key x).id ≡ x.id
+pub overtake-id : (key : Scope) (x : Exchange) → (exchange_overtaken_if_in_scope key x).id ≡ x.id
 overtake-id key x = elim (key_is_in_scope key x.asked.target.key) as (λ b. (cond b (record x { overtaken = true }) x).id ≡ x.id) [
   | true ↦ refl
   | false ↦ refl
 ]
 
 pub find-gone_out : (i now : ℕ) (id : ℕ) (xs : List Exchange) →
-    find_exchange id (map (exchange_forwarded_again i now) xs) ≡ option_map (exchange_forwarded_again i now) (find_exchange id xs)
-find-gone_out i now id xs = find-map (exchange_forwarded_again i now) (gone_out-id i now) id xs
+    find_exchange id (map (exchange_after_second_forward i now) xs) ≡ option_map (exchange_after_second_forward i now) (find_exchange id xs)
+find-gone_out i now id xs = find-map (exchange_after_second_forward i now) (gone_out-id i now) id xs
 
 -- what an invalidation does to an exchange
 abbrev pub overtaken_by : Option Scope → Option Exchange → Option Exchange
 overtaken_by None o = o
-overtaken_by (Some key) o = option_map (overtaken_exchange key) o
+overtaken_by (Some key) o = option_map (exchange_overtaken_if_in_scope key) o
 
 -- what the end of another does to it
 abbrev pub released_by : Option ℕ → Option Exchange → Option Exchange
 released_by None o = o
-released_by (Some i) o = option_map (released_exchange i) o
+released_by (Some i) o = option_map (exchange_released_from_leader i) o
 
 -- and what a step of another does
 abbrev pub changed_by : Option Scope → Option ℕ → Option Exchange → Option Exchange
 changed_by key gone o = overtaken_by key (released_by gone o)
 
-find-overtake : (key : Scope) (id : ℕ) (xs : List Exchange) → find_exchange id (map (overtaken_exchange key) xs) ≡ option_map (overtaken_exchange key) (find_exchange id xs)
-find-overtake key id xs = find-map (overtaken_exchange key) (overtake-id key) id xs
+find-overtake : (key : Scope) (id : ℕ) (xs : List Exchange) → find_exchange id (map (exchange_overtaken_if_in_scope key) xs) ≡ option_map (exchange_overtaken_if_in_scope key) (find_exchange id xs)
+find-overtake key id xs = find-map (exchange_overtaken_if_in_scope key) (overtake-id key) id xs
 
 collapse : (b : Bool) (o p q : Option Exchange) → cond b o (cond b p q) ≡ cond b o q
 collapse true o p q = refl
@@ -123,11 +123,11 @@ find-but i id (x ∷ xs) =
           )
     ]
 
-pub find-closed : (i id : ℕ) (xs : List Exchange) → find_exchange id (exchanges_after_close i xs) ≡ cond (eqb i id) None (released_by (Some i) (find_exchange id xs))
+pub find-closed : (i id : ℕ) (xs : List Exchange) → find_exchange id (exchanges_after_end_and_release i xs) ≡ cond (eqb i id) None (released_by (Some i) (find_exchange id xs))
 find-closed i id xs =
-    find-map (released_exchange i) (release-id i) id (but i xs)
-    ∙ ap (option_map (released_exchange i)) (find-but i id xs)
-    ∙ elim (eqb i id) as (λ b. option_map (released_exchange i) (cond b None (find_exchange id xs)) ≡ cond b None (option_map (released_exchange i) (find_exchange id xs))) [
+    find-map (exchange_released_from_leader i) (release-id i) id (but i xs)
+    ∙ ap (option_map (exchange_released_from_leader i)) (find-but i id xs)
+    ∙ elim (eqb i id) as (λ b. option_map (exchange_released_from_leader i) (cond b None (find_exchange id xs)) ≡ cond b None (option_map (exchange_released_from_leader i) (find_exchange id xs))) [
       | true ↦ refl
       | false ↦ refl
     ]
@@ -137,31 +137,31 @@ find-without i id xs = find-but i id xs
 
 -- the client of another went away
 pub find-abandoned : (table : Table) (i id : ℕ) (xs : List Exchange) →
-    find_exchange id (exchanges_after_abandon table i xs) ≡ cond (eqb i id) None (option_map (after_abandon table (next_leader table i xs) i) (find_exchange id xs))
+    find_exchange id (exchanges_after_abandon table i xs) ≡ cond (eqb i id) None (option_map (waiter_after_abandon table (next_leader table i xs) i) (find_exchange id xs))
 find-abandoned table i id xs = by_next (next_leader table i xs)
   where
-    by_next : (next : Option NextLeader) → find_exchange id (map (after_abandon table next i) (but i xs)) ≡ cond (eqb i id) None (option_map (after_abandon table next i) (find_exchange id xs))
+    by_next : (next : Option NextLeader) → find_exchange id (map (waiter_after_abandon table next i) (but i xs)) ≡ cond (eqb i id) None (option_map (waiter_after_abandon table next i) (find_exchange id xs))
     by_next next =
-        find-map (after_abandon table next i) (led_on-id table next i) id (but i xs)
-        ∙ ap (option_map (after_abandon table next i)) (find-but i id xs)
-        ∙ elim (eqb i id) as (λ b. option_map (after_abandon table next i) (cond b None (find_exchange id xs)) ≡ cond b None (option_map (after_abandon table next i) (find_exchange id xs))) [
+        find-map (waiter_after_abandon table next i) (led_on-id table next i) id (but i xs)
+        ∙ ap (option_map (waiter_after_abandon table next i)) (find-but i id xs)
+        ∙ elim (eqb i id) as (λ b. option_map (waiter_after_abandon table next i) (cond b None (find_exchange id xs)) ≡ cond b None (option_map (waiter_after_abandon table next i) (find_exchange id xs))) [
           | true ↦ refl
           | false ↦ refl
         ]
 
 -- an end, by which others may be overtaken
 pub find-left_open : (key : Option Scope) (i id : ℕ) (xs : List Exchange) →
-    find_exchange id (exchanges_after_end key i xs) ≡ cond (eqb i id) None (changed_by key (Some i) (find_exchange id xs))
+    find_exchange id (exchanges_after_exchange_end key i xs) ≡ cond (eqb i id) None (changed_by key (Some i) (find_exchange id xs))
 find-left_open None i id xs = find-closed i id xs
 find-left_open (Some key) i id xs =
-    find-overtake key id (exchanges_after_close i xs) ∙ ap (option_map (overtaken_exchange key)) (find-closed i id xs)
-    ∙ elim (eqb i id) as (λ b. option_map (overtaken_exchange key) (cond b None (released_by (Some i) (find_exchange id xs))) ≡ cond b None (option_map (overtaken_exchange key) (released_by (Some i) (find_exchange id xs)))) [
+    find-overtake key id (exchanges_after_end_and_release i xs) ∙ ap (option_map (exchange_overtaken_if_in_scope key)) (find-closed i id xs)
+    ∙ elim (eqb i id) as (λ b. option_map (exchange_overtaken_if_in_scope key) (cond b None (released_by (Some i) (find_exchange id xs))) ≡ cond b None (option_map (exchange_overtaken_if_in_scope key) (released_by (Some i) (find_exchange id xs)))) [
       | true ↦ refl
       | false ↦ refl
     ]
 
 -- a purge
-pub find-purged : (key : Option Scope) (id : ℕ) (xs : List Exchange) → find_exchange id (exchanges_after_purge key xs) ≡ overtaken_by key (find_exchange id xs)
+pub find-purged : (key : Option Scope) (id : ℕ) (xs : List Exchange) → find_exchange id (exchanges_overtaken_in_scope key xs) ≡ overtaken_by key (find_exchange id xs)
 find-purged None id xs = refl
 find-purged (Some key) id xs = find-overtake key id xs
 

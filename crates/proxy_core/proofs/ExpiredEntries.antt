@@ -11,7 +11,7 @@ use Rattle.hx_target.specs.declared.keys.Key.{Key}
 use Rattle.hx_hop.specs.declared.request_view.Asked.{Asked}
 use Rattle.hx_store.specs.Stored.{Stored}
 use Rattle.hx_store.specs.Serials.{serial_is_in, SerialsAreDistinct}
-use Rattle.hx_store.specs.Shelf.{serials, holds_serial, expired_entry, entries_with_expired, serials_of_entries_that_pass}
+use Rattle.hx_store.specs.Shelf.{serials, holds_serial, expired_entry, entries_with_serials_expired, serials_of_entries_that_pass}
 use Rattle.hx_store.proofs.EntryLists.{eqb_comm}
 use Rattle.hx_store.proofs.PassingEntries.{finds_passing}
 use Rattle.hx_store.specs.Weights.{StoreBounds, IsWithinBounds, weight_of_entry}
@@ -22,7 +22,7 @@ use Rattle.proxy_core.specs.declared.event.Event.TheVariants.{Arrive, Answer, Fa
 use Rattle.proxy_core.specs.declared.open.exchange.Exchange.{Exchange}
 use Rattle.proxy_core.specs.Outcomes.{outcome_of_purge_reply}
 use Rattle.proxy_core.specs.State.{NoSerialIsHeldFrom, response_after_expiring, entries_after_expiring, entries_after_event, entries_after_purging_serials}
-use Rattle.proxy_core.specs.Expiring.{with_lifetime_ended_if}
+use Rattle.proxy_core.specs.Expiring.{response_with_lifetime_ended_if}
 use Rattle.proxy_core.specs.Starts.{weight_of_stored_if_any}
 use Rattle.proxy_core.specs.Histories.{response_if_any_after_expiring}
 use Rattle.proxy_core.proofs.Held.{NoneFrom-taken}
@@ -99,7 +99,7 @@ NoneFrom-expired None event expired es h = tt
 NoneFrom-expired (Some n) event expired es h = λ s l. ap (serial_is_in s) (serials_stay event expired es) ∙ h s l
 
 -- where none is expired, all is as it was
-pub none_expired : (now : ℕ) (es : List Stored) → entries_with_expired [] now es ≡ es
+pub none_expired : (now : ℕ) (es : List Stored) → entries_with_serials_expired [] now es ≡ es
 none_expired now [] = refl
 none_expired now (e ∷ es) = ap (λ zs. e ∷ zs) (none_expired now es)
 
@@ -156,15 +156,15 @@ module _ (passes : Stored → Bool) where
       and_true true = refl
       and_true false = refl
 
-  mapped_by_test : (now : ℕ) (gone : List ℕ) (es : List Stored) → AreTold passes (λ s. serial_is_in s gone) es → entries_with_expired gone now es ≡ map (with_lifetime_ended_if passes now) es
+  mapped_by_test : (now : ℕ) (gone : List ℕ) (es : List Stored) → AreTold passes (λ s. serial_is_in s gone) es → entries_with_serials_expired gone now es ≡ map (response_with_lifetime_ended_if passes now) es
   unfolding AreTold
   mapped_by_test now gone [] h = refl
   mapped_by_test now gone (e ∷ es) h =
-      ap (λ b. cond b (record e { times = times_once_purged e.times now }) e ∷ entries_with_expired gone now es) h.0
-      ∙ ap (λ zs. with_lifetime_ended_if passes now e ∷ zs) (mapped_by_test now gone es h.1)
+      ap (λ b. cond b (record e { times = times_once_purged e.times now }) e ∷ entries_with_serials_expired gone now es) h.0
+      ∙ ap (λ zs. response_with_lifetime_ended_if passes now e ∷ zs) (mapped_by_test now gone es h.1)
 
   -- those that pass are expired, and no other
-  pub expired_are_those : (now : ℕ) (es : List Stored) → SerialsAreDistinct (serials es) → entries_with_expired (serials_of_entries_that_pass passes es) now es ≡ map (with_lifetime_ended_if passes now) es
+  pub expired_are_those : (now : ℕ) (es : List Stored) → SerialsAreDistinct (serials es) → entries_with_serials_expired (serials_of_entries_that_pass passes es) now es ≡ map (response_with_lifetime_ended_if passes now) es
   expired_are_those now es d = mapped_by_test now (serials_of_entries_that_pass passes es) es
       (told_same passes (some_passes es) (λ s. serial_is_in s (serials_of_entries_that_pass passes es)) es (λ s. finds_passing passes s es) (told es d))
 
@@ -182,9 +182,9 @@ NoneFrom-purged next Remove taken now es h = NoneFrom-taken next taken es h
 NoneFrom-purged None Stale taken now es h = tt
 NoneFrom-purged (Some n) Stale taken now es h = λ s l. ap (serial_is_in s) (all_serials taken now es) ∙ h s l
   where
-    all_serials : (gone : List ℕ) (now : ℕ) (es : List Stored) → serials (entries_with_expired gone now es) ≡ serials es
+    all_serials : (gone : List ℕ) (now : ℕ) (es : List Stored) → serials (entries_with_serials_expired gone now es) ≡ serials es
     all_serials gone now [] = refl
-    all_serials gone now (e ∷ es) = ap (λ s. s ∷ serials (entries_with_expired gone now es)) (entry_stays (λ (z : Stored). z.serial) (λ z t. refl) gone now e) ∙ ap (λ ss. e.serial ∷ ss) (all_serials gone now es)
+    all_serials gone now (e ∷ es) = ap (λ s. s ∷ serials (entries_with_serials_expired gone now es)) (entry_stays (λ (z : Stored). z.serial) (λ z t. refl) gone now e) ∙ ap (λ ss. e.serial ∷ ss) (all_serials gone now es)
 
 -- ---- of a response that is there behind it: it was there before, with other times at most
 

@@ -4,7 +4,7 @@ use Rattle.hx_framing.specs.declared.messages.Response.{Response}
 use Rattle.hx_hop.specs.declared.request_view.Asked.{Asked}
 use Rattle.hx_allow.specs.TableLines.{Table}
 use Rattle.hx_allow.specs.Matching.{policy_of}
-use Rattle.hx_allow.specs.declared.verdicts.RequestRoute.{RequestRoute}
+use Rattle.hx_allow.specs.declared.verdicts.RouteOverLine.{RouteOverLine}
 use Rattle.hx_allow.specs.declared.verdicts.Verdict.{Verdict}
 use Rattle.hx_allow.specs.declared.verdicts.Verdict.TheVariants as verdict
 use Rattle.hx_store.specs.Stored.{Stored}
@@ -15,87 +15,87 @@ use Rattle.hx_reuse.specs.declared.decision.Decision.TheVariants as decision
 use Rattle.hx_status.specs.declared.cause.FailKind.{FailKind}
 use Rattle.hx_status.specs.declared.cause.FailKind.TheVariants.{BadAnswer}
 use Rattle.proxy_core.specs.declared.steps.condition.Condition.{Condition}
-use Rattle.proxy_core.specs.declared.steps.fallback.Fallback.{Fallback}
-use Rattle.proxy_core.specs.declared.steps.fallback.Fallback.TheVariants.{Sends, Refuses}
+use Rattle.proxy_core.specs.declared.steps.fallback.FallbackDecision.{FallbackDecision}
+use Rattle.proxy_core.specs.declared.steps.fallback.FallbackDecision.TheVariants.{Sends, Refuses}
 use Rattle.proxy_core.specs.declared.open.exchange.Exchange.{Exchange}
 use Rattle.proxy_core.specs.declared.outcome.Outcome.{Outcome}
 use Rattle.proxy_core.specs.declared.event.Event.{Event}
 use Rattle.proxy_core.specs.declared.event.Event.TheVariants.{Arrive, Answer, Fail, Wake, Abandon, Overdue}
 use Rattle.proxy_core.specs.Allowing.{verdict_of_asked, request_purges, is_purge_verdict}
-use Rattle.proxy_core.specs.Scopes.{serials_to_expire}
-use Rattle.proxy_core.specs.Validating.{condition_about_serial, is_304_to_own_conditions, stored_response_validated}
+use Rattle.proxy_core.specs.Scopes.{serials_purge_expires}
+use Rattle.proxy_core.specs.Validating.{condition_to_revalidate_serial, is_304_to_own_conditions, stored_response_validated_by_304}
 use Rattle.proxy_core.specs.Storing.{is_304_without_condition}
-use Rattle.proxy_core.specs.Outcomes.{find_exchange, exchange_id_of_event, outcome_of_waiting_or_forwarding, outcome_without_stored_response, outcome_of_allowed_request, outcome_of_arrival, is_only_if_cached, fallback_for_failed_answer, outcome_of_failure, is_error_status, outcome_of_passing_on_or_stale, outcome_of_304, outcome_of_answer, outcome_of_wake, outcome_for_exchange}
-use Rattle.proxy_core.specs.State.{expired_by_outcome}
+use Rattle.proxy_core.specs.Outcomes.{find_exchange, exchange_id_of_event, outcome_of_waiting_or_forwarding, outcome_where_reuse_rule_applies, outcome_of_allowed_request, outcome_of_arrival, is_only_if_cached, fallback_for_failed_answer, outcome_of_failure, is_stale_if_error_status, outcome_of_passing_on_or_stale, outcome_of_304, outcome_of_answer, outcome_of_wake, outcome_of_event_at_exchange}
+use Rattle.proxy_core.specs.State.{expired_serials_if_any}
 use Rattle.proxy_core.specs.StoredAnswers.{OutcomeExpiresExactlyWhatItMust, ItemExpiresExactlyWhatItMust}
 use Rattle.proxy_core.specs.Histories.{held_entries, open_exchanges, next_serial}
 use Rattle.proxy_core.proofs.SentBeside.{led_over, sent_over, unless_sent}
 
 module _ (table : Table) (es : List Stored) (now : ℕ) where
-  module _ (xs : List Exchange) (asked : Asked) (line : RequestRoute) where
-    on : (condition : Option Condition) (leader : Option ℕ) → expired_by_outcome (outcome_of_waiting_or_forwarding table line asked condition leader) ≡ None
+  module _ (xs : List Exchange) (asked : Asked) (line : RouteOverLine) where
+    on : (condition : Option Condition) (leader : Option ℕ) → expired_serials_if_any (outcome_of_waiting_or_forwarding table line asked condition leader) ≡ None
     on condition None = refl
     on condition (Some leader) = refl
 
-    unless : (rule : ReuseRule) (condition : Option Condition) (b : Bool) → expired_by_outcome (outcome_without_stored_response table es xs line now asked rule condition b) ≡ None
+    unless : (rule : ReuseRule) (condition : Option Condition) (b : Bool) → expired_serials_if_any (outcome_where_reuse_rule_applies table es xs line now asked rule condition b) ≡ None
     unless rule condition true = refl
     unless rule condition false =
-        unless_sent (λ (o : Outcome). expired_by_outcome o ≡ None) table es line now asked (sent_over table es xs line now asked rule) (outcome_of_waiting_or_forwarding table line asked condition (led_over table es xs line asked rule))
+        unless_sent (λ (o : Outcome). expired_serials_if_any o ≡ None) table es line now asked (sent_over table es xs line now asked rule) (outcome_of_waiting_or_forwarding table line asked condition (led_over table es xs line asked rule))
         (λ t is. refl) (on condition (led_over table es xs line asked rule))
 
-    allowed_by : (d : Decision) → expired_by_outcome (outcome_of_allowed_request table es xs line now asked d) ≡ None
+    allowed_by : (d : Decision) → expired_serials_if_any (outcome_of_allowed_request table es xs line now asked d) ≡ None
     allowed_by (decision.Hit s) = refl
-    allowed_by (decision.Forward rule against) = unless rule (condition_about_serial es against) (is_only_if_cached asked)
+    allowed_by (decision.Forward rule against) = unless rule (condition_to_revalidate_serial es against) (is_only_if_cached asked)
 
-  arrival_expires : (xs : List Exchange) (asked : Asked) (v : Verdict) → expired_by_outcome (outcome_of_arrival table es xs now asked v) ≡ cond (is_purge_verdict v) (serials_to_expire asked es) None
+  arrival_expires : (xs : List Exchange) (asked : Asked) (v : Verdict) → expired_serials_if_any (outcome_of_arrival table es xs now asked v) ≡ cond (is_purge_verdict v) (serials_purge_expires asked es) None
   arrival_expires xs asked (verdict.Allowed line) = allowed_by xs asked line (decision_of (policy_of table.lines line) es asked now)
   arrival_expires xs asked (verdict.DeniedBy line) = refl
   arrival_expires xs asked verdict.NoLine = refl
   arrival_expires xs asked (verdict.Looped line) = refl
   arrival_expires xs asked (verdict.Purged line) = refl
 
-  failed : (x : Exchange) (kind : FailKind) (came : Option ℕ) (fallback : Fallback) → expired_by_outcome (outcome_of_failure table es now x kind came fallback) ≡ None
+  failed : (x : Exchange) (kind : FailKind) (came : Option ℕ) (fallback : FallbackDecision) → expired_serials_if_any (outcome_of_failure table es now x kind came fallback) ≡ None
   failed x kind came (Sends serial detail) = refl
   failed x kind came (Refuses rule error) = refl
 
-  answered : (x : Exchange) (r : Response) (next : Option ℕ) (d : Decision) → expired_by_outcome (outcome_of_answer table es now x r next d) ≡ None
+  answered : (x : Exchange) (r : Response) (next : Option ℕ) (d : Decision) → expired_serials_if_any (outcome_of_answer table es now x r next d) ≡ None
   answered x r next d = by_304 (is_304_to_own_conditions x r)
     where
-      validated : (o : Option Stored) (d : Decision) → expired_by_outcome (outcome_of_304 table es now x r o d) ≡ None
+      validated : (o : Option Stored) (d : Decision) → expired_serials_if_any (outcome_of_304 table es now x r o d) ≡ None
       validated (Some e) d = refl
       validated None (decision.Hit serial) = refl
       validated None (decision.Forward rule against) = refl
 
-      by_error : (e : Bool) (fallback : Fallback) → expired_by_outcome (outcome_of_passing_on_or_stale table es now x r next e fallback) ≡ None
+      by_error : (e : Bool) (fallback : FallbackDecision) → expired_serials_if_any (outcome_of_passing_on_or_stale table es now x r next e fallback) ≡ None
       by_error true (Sends serial detail) = refl
       by_error true (Refuses rule error) = refl
       by_error false fallback = refl
 
-      by_unasked : (b : Bool) → expired_by_outcome (cond b (outcome_of_failure table es now x BadAnswer (Some r.status) (fallback_for_failed_answer (policy_of table.lines x.line) es x.asked now d))
-          (outcome_of_passing_on_or_stale table es now x r next (is_error_status r.status) (fallback_for_failed_answer (policy_of table.lines x.line) es x.asked now d))) ≡ None
+      by_unasked : (b : Bool) → expired_serials_if_any (cond b (outcome_of_failure table es now x BadAnswer (Some r.status) (fallback_for_failed_answer (policy_of table.lines x.line) es x.asked now d))
+          (outcome_of_passing_on_or_stale table es now x r next (is_stale_if_error_status r.status) (fallback_for_failed_answer (policy_of table.lines x.line) es x.asked now d))) ≡ None
       by_unasked true = failed x BadAnswer (Some r.status) (fallback_for_failed_answer (policy_of table.lines x.line) es x.asked now d)
-      by_unasked false = by_error (is_error_status r.status) (fallback_for_failed_answer (policy_of table.lines x.line) es x.asked now d)
+      by_unasked false = by_error (is_stale_if_error_status r.status) (fallback_for_failed_answer (policy_of table.lines x.line) es x.asked now d)
 
-      by_304 : (b : Bool) → expired_by_outcome (cond b (outcome_of_304 table es now x r (stored_response_validated es x r now) d)
+      by_304 : (b : Bool) → expired_serials_if_any (cond b (outcome_of_304 table es now x r (stored_response_validated_by_304 es x r now) d)
           (cond (is_304_without_condition (policy_of table.lines x.line) x.asked r) (outcome_of_failure table es now x BadAnswer (Some r.status) (fallback_for_failed_answer (policy_of table.lines x.line) es x.asked now d))
-          (outcome_of_passing_on_or_stale table es now x r next (is_error_status r.status) (fallback_for_failed_answer (policy_of table.lines x.line) es x.asked now d)))) ≡ None
-      by_304 true = validated (stored_response_validated es x r now) d
+          (outcome_of_passing_on_or_stale table es now x r next (is_stale_if_error_status r.status) (fallback_for_failed_answer (policy_of table.lines x.line) es x.asked now d)))) ≡ None
+      by_304 true = validated (stored_response_validated_by_304 es x r now) d
       by_304 false = by_unasked (is_304_without_condition (policy_of table.lines x.line) x.asked r)
 
-  woken : (x : Exchange) (d : Decision) → expired_by_outcome (outcome_of_wake table es now x d) ≡ None
+  woken : (x : Exchange) (d : Decision) → expired_serials_if_any (outcome_of_wake table es now x d) ≡ None
   woken x (decision.Hit s) = refl
   woken x (decision.Forward rule against) = refl
 
 -- what an event expires
 abbrev serials_expired_by_event : Table → List Stored → Event → Option (List ℕ)
-serials_expired_by_event table held (Arrive now id asked) = cond (request_purges table asked) (serials_to_expire asked held) None
+serials_expired_by_event table held (Arrive now id asked) = cond (request_purges table asked) (serials_purge_expires asked held) None
 serials_expired_by_event table held (Answer now id r) = None
 serials_expired_by_event table held (Fail now id kind) = None
 serials_expired_by_event table held (Wake now id) = None
 serials_expired_by_event table held (Abandon id) = None
 serials_expired_by_event table held (Overdue id) = None
 
-expires_by_event : (table : Table) (es : List Stored) (xs : List Exchange) (x : Option Exchange) (next : Option ℕ) (event : Event) → expired_by_outcome (outcome_for_exchange table es xs x next event) ≡ serials_expired_by_event table es event
+expires_by_event : (table : Table) (es : List Stored) (xs : List Exchange) (x : Option Exchange) (next : Option ℕ) (event : Event) → expired_serials_if_any (outcome_of_event_at_exchange table es xs x next event) ≡ serials_expired_by_event table es event
 expires_by_event table es xs x next (Arrive now id asked) = arrival_expires table es now xs asked (verdict_of_asked table asked)
 expires_by_event table es xs (Some x) next (Answer now id r) = answered table es now x r next (decision_of (policy_of table.lines x.line) es x.asked now)
 expires_by_event table es xs None next (Answer now id r) = refl
@@ -107,7 +107,7 @@ expires_by_event table es xs x next (Abandon id) = refl
 expires_by_event table es xs x next (Overdue id) = refl
 
 -- in words
-in_words : (table : Table) (es : List Stored) (event : Event) (o : Outcome) → expired_by_outcome o ≡ serials_expired_by_event table es event → OutcomeExpiresExactlyWhatItMust table es event o
+in_words : (table : Table) (es : List Stored) (event : Event) (o : Outcome) → expired_serials_if_any o ≡ serials_expired_by_event table es event → OutcomeExpiresExactlyWhatItMust table es event o
 in_words table es (Arrive now id asked) o h = h
 in_words table es (Answer now id r) o h = h
 in_words table es (Fail now id kind) o h = h
@@ -120,5 +120,5 @@ expires_just_that table start first item past g =
     let es = held_entries table start past in
     let xs = open_exchanges table start past in
     in_words table es item.event item.outcome
-    (subst (λ (o : Outcome). expired_by_outcome o ≡ serials_expired_by_event table es item.event) (sym g.0.outcome_is)
+    (subst (λ (o : Outcome). expired_serials_if_any o ≡ serials_expired_by_event table es item.event) (sym g.0.outcome_is)
     (expires_by_event table es xs (find_exchange (exchange_id_of_event item.event) xs) (next_serial first past) item.event))

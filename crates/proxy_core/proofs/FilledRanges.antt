@@ -12,7 +12,7 @@ use Rattle.hx_age.specs.Age.{times_of_message}
 use Rattle.hx_age.specs.declared.moments.Times.{Times}
 use Rattle.hx_allow.specs.Matching.{policy_of}
 use Rattle.hx_allow.specs.TableLines.{Table}
-use Rattle.hx_allow.specs.declared.verdicts.RequestRoute.{RequestRoute}
+use Rattle.hx_allow.specs.declared.verdicts.RouteOverLine.{RouteOverLine}
 use Rattle.hx_hop.specs.Answering.{answered_of}
 use Rattle.hx_hop.specs.Bypass.{asks_for_range}
 use Rattle.hx_hop.specs.Forwarding.{forwarded_client_lines, condition_lines, forwarded_of, host_text, is_condition_line, line, line_if_present, via_text}
@@ -21,11 +21,11 @@ use Rattle.hx_hop.specs.declared.request_view.Asked.{Asked}
 use Rattle.hx_hop.proofs.Lines.{list_any_fewer}
 use Rattle.hx_policy.specs.declared.words.Policy.{Policy}
 use Rattle.hx_reuse.specs.Conditions.{withholds_conditions}
-use Rattle.hx_reuse.specs.FilledRanges.{fetches_whole_for_range, request_sent_to_origin, request_without_range}
+use Rattle.hx_reuse.specs.FilledRanges.{fetches_whole_for_range, request_without_filled_range, request_without_range}
 use Rattle.hx_reuse.proofs.FilledRanges.{as_the_whole, asks_no_more, has_stays, none_forwarded, only_these}
 use Rattle.hx_storable.specs.declared.rule.StoreRule.{StoreRule}
 use Rattle.hx_validate.specs.NotModified.{answer_gets_304}
-use Rattle.hx_validate.specs.Ranges.{answer_to_any_range, range_is_answered, if_range_holds, range_answer_of, range_asked}
+use Rattle.hx_validate.specs.Ranges.{answer_to_range_if_any, range_is_answered, if_range_holds, range_answer_of, range_asked}
 use Rattle.hx_validate.specs.Room.{head_leaves_room}
 use Rattle.hx_validate.specs.declared.ranges.RangeAnswer.{RangeAnswer}
 use Rattle.hx_validate.specs.declared.ranges.RangeAnswer.TheVariants.{Whole, Part, Unsatisfiable}
@@ -33,9 +33,9 @@ use Rattle.proxy_core.specs.declared.open.awaited.Awaited.{Awaited}
 use Rattle.proxy_core.specs.declared.open.awaited.Awaited.TheVariants.{Missing, Expired}
 use Rattle.proxy_core.specs.declared.open.exchange.Exchange.{Exchange}
 use Rattle.proxy_core.specs.FilledRanges.{IfRangeMismatchGetsWholeAnswer, AnswerIsCutLikeAStoredResponse, AnswerIsWholeUnlessRangeIsFilled, FilledRangeLeadsLikeTheWhole, FilledRangeForwardsNoRangeField, OnlyA200AnswerIsCutToTheRange, PartialAnswerHasRangeBytes, FilledRangeIsForwardedAsTheWhole, WholeAnswerIsStored, UnsatisfiableRangeOfAnswerGets416}
-use Rattle.proxy_core.specs.Leading.{exchange_asks_for_awaited, has_authorization, is_forwarded, is_get, bools_are_equal}
+use Rattle.proxy_core.specs.Leading.{exchange_went_forward_for_awaited, has_authorization, is_forwarded, is_get, bools_are_equal}
 use Rattle.hx_target.specs.Keys.{same_key}
-use Rattle.proxy_core.specs.Replies.{answer_in_range_text, client_wants_304_for_answer, content_unless_head, fields_in_place_of_answer, fields_of_answer_416, fields_of_partial_answer, not_modified_answer_text, range_of_answer, text_in_place_of_answer, whole_answer_text}
+use Rattle.proxy_core.specs.Replies.{text_of_answer_or_its_range, client_wants_304_for_answer, content_unless_head, fields_in_place_of_answer, fields_of_answer_416, fields_of_partial_answer, not_modified_answer_text, part_of_answer_to_send, text_in_place_of_answer, whole_answer_text}
 use Rattle.proxy_core.specs.Validating.{conditions_to_send}
 
 -- ---- what the origin is asked
@@ -85,7 +85,7 @@ none_of_ours keeps sent name field conditions none host tag date via =
 pub forwards_no_range : FilledRangeForwardsNoRangeField
 forwards_no_range table line asked condition fills =
     let policy : Policy = policy_of table.lines line in
-    let sent : Asked = request_sent_to_origin policy asked in
+    let sent : Asked = request_without_filled_range policy asked in
     let left = none_forwarded policy asked fills in (
       forwarded_of (withholds_conditions policy asked) sent table.name (conditions_to_send condition),
       refl,
@@ -97,10 +97,10 @@ forwards_no_range table line asked condition fills =
 
 pub leads_as_the_whole : FilledRangeLeadsLikeTheWhole
 leads_as_the_whole policy awaited asked x fills =
-    ap (λ b. leads (exchange_asks_for_awaited awaited x) (not (asks_for_range x.asked && not b)) (serves kept tag date credentials)) fills
-    ∙ (ap (λ b. leads (exchange_asks_for_awaited awaited x) (not b) (serves kept tag date credentials)) (never (asks_for_range x.asked))
-    ∙ (sym (ap (λ b. leads (exchange_asks_for_awaited awaited x) (not (b && not (fetches_whole_for_range policy (request_without_range x.asked)))) (serves kept tag date credentials)) (asks_no_more x.asked))
-    ∙ (ap (λ b. leads (exchange_asks_for_awaited awaited x) (not (asks_for_range (request_without_range x.asked) && not (fetches_whole_for_range policy (request_without_range x.asked)))) b) same
+    ap (λ b. leads (exchange_went_forward_for_awaited awaited x) (not (asks_for_range x.asked && not b)) (serves kept tag date credentials)) fills
+    ∙ (ap (λ b. leads (exchange_went_forward_for_awaited awaited x) (not b) (serves kept tag date credentials)) (never (asks_for_range x.asked))
+    ∙ (sym (ap (λ b. leads (exchange_went_forward_for_awaited awaited x) (not (b && not (fetches_whole_for_range policy (request_without_range x.asked)))) (serves kept tag date credentials)) (asks_no_more x.asked))
+    ∙ (ap (λ b. leads (exchange_went_forward_for_awaited awaited x) (not (asks_for_range (request_without_range x.asked) && not (fetches_whole_for_range policy (request_without_range x.asked)))) b) same
     ∙ ap (λ b. leads b (not (asks_for_range (request_without_range x.asked) && not (fetches_whole_for_range policy (request_without_range x.asked)))) (serves (withholds_conditions policy (request_without_range x.asked)) (has_field whole (codes "If-None-Match")) (has_field whole (codes "If-Modified-Since")) (has_field whole (codes "Authorization")))) (same_wish awaited))))
   where
     kept : Bool
@@ -125,7 +125,7 @@ leads_as_the_whole policy awaited asked x fills =
     serves : Bool → Bool → Bool → Bool → Bool
     serves k i m a = not x.no_store && (not x.overtaken && (not (is_none x.condition && (not k && (i || m))) && bools_are_equal a (has_authorization asked)))
 
-    same_wish : (wish : Awaited) → exchange_asks_for_awaited wish x ≡ exchange_asks_for_awaited wish (record x { asked = request_without_range x.asked })
+    same_wish : (wish : Awaited) → exchange_went_forward_for_awaited wish x ≡ exchange_went_forward_for_awaited wish (record x { asked = request_without_range x.asked })
     same_wish Missing = refl
     same_wish (Expired serial) = refl
 
@@ -154,15 +154,15 @@ cut_as_held policy x r now e fills status fields content times =
     ∙ ap (λ (c : List ℕ). range_answer_of x.asked e.status e.times.date e.fields (length c)) (sym content))))
 
 module _ (policy : Policy) (name : List ℕ) (x : Exchange) (r : Response) (now : ℕ) (stored : Bool) (rule : Option StoreRule) where
-  in_range : (answer : RangeAnswer) → client_wants_304_for_answer policy x r now ≡ false → range_of_answer policy x r now ≡ answer
-      → cond (client_wants_304_for_answer policy x r now) (not_modified_answer_text policy name x r now stored rule) (answer_in_range_text policy name x r now stored rule (range_of_answer policy x r now))
-      ≡ answer_in_range_text policy name x r now stored rule answer
+  in_range : (answer : RangeAnswer) → client_wants_304_for_answer policy x r now ≡ false → part_of_answer_to_send policy x r now ≡ answer
+      → cond (client_wants_304_for_answer policy x r now) (not_modified_answer_text policy name x r now stored rule) (text_of_answer_or_its_range policy name x r now stored rule (part_of_answer_to_send policy x r now))
+      ≡ text_of_answer_or_its_range policy name x r now stored rule answer
   in_range answer has_not is =
-      ap (λ b. cond b (not_modified_answer_text policy name x r now stored rule) (answer_in_range_text policy name x r now stored rule (range_of_answer policy x r now))) has_not
-      ∙ ap (answer_in_range_text policy name x r now stored rule) is
+      ap (λ b. cond b (not_modified_answer_text policy name x r now stored rule) (text_of_answer_or_its_range policy name x r now stored rule (part_of_answer_to_send policy x r now))) has_not
+      ∙ ap (text_of_answer_or_its_range policy name x r now stored rule) is
 
 -- only the answer to a GET is cut
-pub to_get : (policy : Policy) (x : Exchange) (r : Response) (now : ℕ) (answer : RangeAnswer) → range_of_answer policy x r now ≡ answer → (Whole ≡ answer → ⊥) → bytes_eq x.asked.method (codes "HEAD") ≡ false
+pub to_get : (policy : Policy) (x : Exchange) (r : Response) (now : ℕ) (answer : RangeAnswer) → part_of_answer_to_send policy x r now ≡ answer → (Whole ≡ answer → ⊥) → bytes_eq x.asked.method (codes "HEAD") ≡ false
 to_get policy x r now answer is not_whole = by_test (fetches_whole_for_range policy x.asked) refl is
   where
     by_test : (t : Bool) → fetches_whole_for_range policy x.asked ≡ t → cond t (range_answer_of x.asked r.status (times_of_message (answered_of r now).fields x.request_time now).date (answered_of r now).fields (length r.content)) Whole ≡ answer
@@ -192,11 +192,11 @@ unsatisfiable_told policy name x r now stored rule has_not is room =
     no_part e = cc
 
 -- where Range isn't heeded all is sent
-unheeded : (policy : Policy) (x : Exchange) (r : Response) (now : ℕ) → range_is_answered x.asked r.status (times_of_message (answered_of r now).fields x.request_time now).date (answered_of r now).fields ≡ false → range_of_answer policy x r now ≡ Whole
+unheeded : (policy : Policy) (x : Exchange) (r : Response) (now : ℕ) → range_is_answered x.asked r.status (times_of_message (answered_of r now).fields x.request_time now).date (answered_of r now).fields ≡ false → part_of_answer_to_send policy x r now ≡ Whole
 unheeded policy x r now off = by_test (fetches_whole_for_range policy x.asked)
   where
     by_test : (t : Bool) → cond t (range_answer_of x.asked r.status (times_of_message (answered_of r now).fields x.request_time now).date (answered_of r now).fields (length r.content)) Whole ≡ Whole
-    by_test true = ap (λ h. cond h (answer_to_any_range (length r.content) (range_asked x.asked.fields)) Whole) off
+    by_test true = ap (λ h. cond h (answer_to_range_if_any (length r.content) (range_asked x.asked.fields)) Whole) off
     by_test false = refl
 
 pub only_a_200 : OnlyA200AnswerIsCutToTheRange
@@ -211,7 +211,7 @@ only_a_200 policy name x r now stored rule other =
 pub whole_unless_filled : AnswerIsWholeUnlessRangeIsFilled
 whole_unless_filled policy name x r now stored rule off =
     ap (λ t. cond (client_wants_304_for_answer policy x r now) (not_modified_answer_text policy name x r now stored rule)
-    (answer_in_range_text policy name x r now stored rule
+    (text_of_answer_or_its_range policy name x r now stored rule
     (cond t (range_answer_of x.asked r.status (times_of_message (answered_of r now).fields x.request_time now).date (answered_of r now).fields (length r.content)) Whole))) off
 
 pub another_if_range : IfRangeMismatchGetsWholeAnswer

@@ -6,13 +6,13 @@ use Rattle.hx_fields.specs.FieldLines.{has_field as has_line}
 use Rattle.hx_directives.specs.Occurrences.{occurrences_of}
 use Rattle.hx_directives.specs.declared.names.Directive.TheVariants as directive
 use Rattle.hx_framing.specs.declared.messages.Response.{Response}
-use Rattle.hx_hop.specs.Bypass.{request_has_content, asks_for_range, has_precondition}
+use Rattle.hx_hop.specs.Bypass.{request_has_content, asks_for_range, has_precondition_for_origin}
 use Rattle.hx_policy.specs.Policies.{is_heuristic_status}
 use Rattle.hx_allow.specs.TableLines.{Table}
 use Rattle.hx_allow.specs.Matching.{policy_of}
 use Rattle.hx_store.specs.Stored.{Stored}
 use Rattle.hx_store.specs.Weights.{weight_of_entry}
-use Rattle.hx_storable.specs.Rules.{allows_authorized, response_allows_storing, is_answer_to_its_range_alone, is_understood_status, response_has, storing_rule_applies, storage_rule_of}
+use Rattle.hx_storable.specs.Rules.{allows_authorized, response_allows_storing, answer_may_depend_on_range, is_understood_status, response_has_directive, storing_rule_applies, rule_against_storing}
 use Rattle.hx_storable.specs.Storable.{StatusNeedsToBeUnderstood, NoStoreIsAbsentOrLifted, ResponseAllowsSharedWithAuthorization, ResponseAllowsStoring, PolicyAllowsStoring}
 use Rattle.hx_storable.specs.declared.rule.StoreRule.{StoreRule}
 use Rattle.hx_storable.specs.declared.rule.StoreRule.TheVariants.{Operator, Method, Bypass, Status, MustUnderstand, ResponseNoStore, RequestNoStore, Private, Authorization, NothingAllows, VaryStar, ConnectionField, NothingToReuse, TooLarge, Overtaken, Serials, SetCookie, ErrorStatus, RequestCookie}
@@ -24,7 +24,7 @@ use Rattle.hx_storable.proofs.StorableLemmas.{not_for_its_range, for_no_range}
 use Rattle.proxy_core.specs.declared.open.exchange.Exchange.{Exchange}
 use Rattle.proxy_core.specs.Validating.{weight_exceeds_optional_bound, as_get_request, head_of_stored, storing_facts_of_freshened}
 use Rattle.proxy_core.specs.StoredAnswers.{FreshenedMayBeKept, FreshenedIsKeptWhereAllowed, NothingElseFreshenedIsKept}
-use Rattle.proxy_core.proofs.StoringWords.{can_be_reused, fields_named, fits_in, may_be_released, not_above, within_bound, keeps_all, lasts_or_validates, lists_none, star_absent}
+use Rattle.proxy_core.proofs.StoringWords.{can_be_reused, fields_named, fits_in, arrival_may_be_released, not_above, within_bound, keeps_all, lasts_or_validates, lists_none, star_absent}
 
 none_of : {A : Type 0} (o : Option A) → is_none o ≡ true → o ≡ None
 none_of None h = refl
@@ -44,9 +44,9 @@ module _ (table : Table) (x : Exchange) (r : Response) (e : Stored) where
   as_it_came within = record { cookies = within.cookies; set_cookie_lifetimes = within.set_cookie_lifetimes; errors = within.errors; requests_with_cookies = within.requests_with_cookies }
 
   module _ (none : (any : StoreRule) → storing_rule_applies any (as_get_request x.asked) (head_of_stored e) (storing_facts_of_freshened table x r e) ≡ false) where
-    must_be_understood : response_has (head_of_stored e) directive.MustUnderstand ≡ true → is_understood_status e.status ≡ true
+    must_be_understood : response_has_directive (head_of_stored e) directive.MustUnderstand ≡ true → is_understood_status e.status ≡ true
     must_be_understood must =
-        not_false (is_understood_status e.status) (second_false (response_has (head_of_stored e) directive.MustUnderstand) (not (is_understood_status e.status)) must (none MustUnderstand))
+        not_false (is_understood_status e.status) (second_false (response_has_directive (head_of_stored e) directive.MustUnderstand) (not (is_understood_status e.status)) must (none MustUnderstand))
 
     understood : StatusNeedsToBeUnderstood (head_of_stored e) → is_understood_status e.status ≡ true
     understood (inl part) = absurd (never (sym (is_equal e.status 206 part) ∙ left_false (e.status == 206) (e.status == 304) (none Status)))
@@ -54,23 +54,23 @@ module _ (table : Table) (x : Exchange) (r : Response) (e : Stored) where
     understood (inr (inr must)) = must_be_understood must
 
     not_forbidden : NoStoreIsAbsentOrLifted (head_of_stored e)
-    not_forbidden = at (either_false (response_has (head_of_stored e) directive.NoStore) (not (response_has (head_of_stored e) directive.MustUnderstand)) (none ResponseNoStore))
+    not_forbidden = at (either_false (response_has_directive (head_of_stored e) directive.NoStore) (not (response_has_directive (head_of_stored e) directive.MustUnderstand)) (none ResponseNoStore))
       where
-        at : (response_has (head_of_stored e) directive.NoStore ≡ false) ⊎ (not (response_has (head_of_stored e) directive.MustUnderstand) ≡ false) → NoStoreIsAbsentOrLifted (head_of_stored e)
+        at : (response_has_directive (head_of_stored e) directive.NoStore ≡ false) ⊎ (not (response_has_directive (head_of_stored e) directive.MustUnderstand) ≡ false) → NoStoreIsAbsentOrLifted (head_of_stored e)
         at (inl absent) = inl absent
-        at (inr lifted) = let must = not_false (response_has (head_of_stored e) directive.MustUnderstand) lifted in inr (must, must_be_understood must)
+        at (inr lifted) = let must = not_false (response_has_directive (head_of_stored e) directive.MustUnderstand) lifted in inr (must, must_be_understood must)
 
     shared_or_unauthorized : (has_line x.asked.fields (codes "Authorization") ≡ false) ⊎ ResponseAllowsSharedWithAuthorization (head_of_stored e)
     shared_or_unauthorized = at (either_false (has_line x.asked.fields (codes "Authorization")) (not (allows_authorized (occurrences_of e.fields))) (none Authorization))
       where
         must : Bool
-        must = response_has (head_of_stored e) directive.MustRevalidate
+        must = response_has_directive (head_of_stored e) directive.MustRevalidate
 
         public : Bool
-        public = response_has (head_of_stored e) directive.Public
+        public = response_has_directive (head_of_stored e) directive.Public
 
         shared : Bool
-        shared = response_has (head_of_stored e) directive.SMaxage
+        shared = response_has_directive (head_of_stored e) directive.SMaxage
 
         last : (must || public ≡ true) ⊎ (shared ≡ true) → ResponseAllowsSharedWithAuthorization (head_of_stored e)
         last (inl h) = elim (one_of must public h) [ inl k ↦ inl k | inr k ↦ inr (inl k) ]
@@ -84,16 +84,16 @@ module _ (table : Table) (x : Exchange) (r : Response) (e : Stored) where
     allowed = first (one_of (((public || expires) || max_age) || shared) (is_heuristic_status e.status) (not_false (response_allows_storing (head_of_stored e)) (none NothingAllows)))
       where
         public : Bool
-        public = response_has (head_of_stored e) directive.Public
+        public = response_has_directive (head_of_stored e) directive.Public
 
         expires : Bool
         expires = has_line e.fields (codes "Expires")
 
         max_age : Bool
-        max_age = response_has (head_of_stored e) directive.MaxAge
+        max_age = response_has_directive (head_of_stored e) directive.MaxAge
 
         shared : Bool
-        shared = response_has (head_of_stored e) directive.SMaxage
+        shared = response_has_directive (head_of_stored e) directive.SMaxage
 
         third : (public || expires ≡ true) ⊎ (max_age ≡ true) → ResponseAllowsStoring (head_of_stored e)
         third (inl h) = elim (one_of public expires h) [ inl k ↦ inl k | inr k ↦ inr (inl k) ]
@@ -117,7 +117,7 @@ module _ (table : Table) (x : Exchange) (r : Response) (e : Stored) where
 
     in_words : head_leaves_room e.fields ≡ true → FreshenedMayBeKept table x r e
     in_words room =
-        let both = left_false (request_has_content x.asked || is_answer_to_its_range_alone (policy_of table.lines x.line) x.asked (head_of_stored e)) (has_precondition x.asked) (none Bypass) in
+        let both = left_false (request_has_content x.asked || answer_may_depend_on_range (policy_of table.lines x.line) x.asked (head_of_stored e)) (has_precondition_for_origin x.asked) (none Bypass) in
         record {
           line_has_cache = not_false (policy_of table.lines x.line).caches (none Operator);
           status_is_understood = understood;
@@ -126,14 +126,14 @@ module _ (table : Table) (x : Exchange) (r : Response) (e : Stored) where
           not_authorized = shared_or_unauthorized;
           allowed = allowed;
           request_has_no_no_store = none RequestNoStore;
-          no_content = left_false (request_has_content x.asked) (is_answer_to_its_range_alone (policy_of table.lines x.line) x.asked (head_of_stored e)) both;
-          is_not_for_its_range = not_for_its_range (policy_of table.lines x.line).forwards_ranges (asks_for_range x.asked) e.status (right_false (request_has_content x.asked) (is_answer_to_its_range_alone (policy_of table.lines x.line) x.asked (head_of_stored e)) both);
-          no_precondition = right_false (request_has_content x.asked || is_answer_to_its_range_alone (policy_of table.lines x.line) x.asked (head_of_stored e)) (has_precondition x.asked) (none Bypass);
+          no_content = left_false (request_has_content x.asked) (answer_may_depend_on_range (policy_of table.lines x.line) x.asked (head_of_stored e)) both;
+          is_not_for_its_range = not_for_its_range (policy_of table.lines x.line).forwards_ranges (asks_for_range x.asked) e.status (right_false (request_has_content x.asked) (answer_may_depend_on_range (policy_of table.lines x.line) x.asked (head_of_stored e)) both);
+          no_precondition = right_false (request_has_content x.asked || answer_may_depend_on_range (policy_of table.lines x.line) x.asked (head_of_stored e)) (has_precondition_for_origin x.asked) (none Bypass);
           policy_allows_it = as_it_came (within_the_words (as_get_request x.asked) (head_of_stored e) (storing_facts_of_freshened table x r e) none);
           names_fields = fields_named e.fields (none VaryStar);
           connection_of_304_removed_no_caching_field = keeps_all r.fields (none ConnectionField);
           can_be_reused = can_be_reused e.fields (policy_of table.lines x.line) e.status has_lifetime_or_validator;
-          fits = may_be_released table.max_stored (length e.content) (left_false (nat_lt table.max_stored (length e.content)) (weight_exceeds_optional_bound table.max_store (weight_of_entry e)) (none TooLarge));
+          fits = arrival_may_be_released table.max_stored (length e.content) (left_false (nat_lt table.max_stored (length e.content)) (weight_exceeds_optional_bound table.max_store (weight_of_entry e)) (none TooLarge));
           fits_the_store = within_bound table.max_store (weight_of_entry e) (right_false (nat_lt table.max_stored (length e.content)) (weight_exceeds_optional_bound table.max_store (weight_of_entry e)) (none TooLarge));
           leaves_room = room;
         }
@@ -144,13 +144,13 @@ module _ (table : Table) (x : Exchange) (r : Response) (e : Stored) where
   shared_is_allowed says_so = at says_so
     where
       must : Bool
-      must = response_has (head_of_stored e) directive.MustRevalidate
+      must = response_has_directive (head_of_stored e) directive.MustRevalidate
 
       public : Bool
-      public = response_has (head_of_stored e) directive.Public
+      public = response_has_directive (head_of_stored e) directive.Public
 
       shared : Bool
-      shared = response_has (head_of_stored e) directive.SMaxage
+      shared = response_has_directive (head_of_stored e) directive.SMaxage
 
       at : ResponseAllowsSharedWithAuthorization (head_of_stored e) → allows_authorized (occurrences_of e.fields) ≡ true
       at (inl h) = or_left (must || public) shared (or_left must public h)
@@ -161,16 +161,16 @@ module _ (table : Table) (x : Exchange) (r : Response) (e : Stored) where
   storing_is_allowed says_so = at says_so
     where
       public : Bool
-      public = response_has (head_of_stored e) directive.Public
+      public = response_has_directive (head_of_stored e) directive.Public
 
       expires : Bool
       expires = has_line e.fields (codes "Expires")
 
       max_age : Bool
-      max_age = response_has (head_of_stored e) directive.MaxAge
+      max_age = response_has_directive (head_of_stored e) directive.MaxAge
 
       shared : Bool
-      shared = response_has (head_of_stored e) directive.SMaxage
+      shared = response_has_directive (head_of_stored e) directive.SMaxage
 
       heuristic : Bool
       heuristic = is_heuristic_status e.status
@@ -185,9 +185,9 @@ module _ (table : Table) (x : Exchange) (r : Response) (e : Stored) where
       at (inr (inr (inr (inl h)))) = or_left (((public || expires) || max_age) || shared) heuristic (or_right ((public || expires) || max_age) shared h)
       at (inr (inr (inr (inr h)))) = or_right (((public || expires) || max_age) || shared) heuristic h
 
-  no_store_applies : NoStoreIsAbsentOrLifted (head_of_stored e) → response_has (head_of_stored e) directive.NoStore && not (response_has (head_of_stored e) directive.MustUnderstand) ≡ false
-  no_store_applies (inl absent) = first_absent (response_has (head_of_stored e) directive.NoStore) (not (response_has (head_of_stored e) directive.MustUnderstand)) absent
-  no_store_applies (inr lifted) = last_absent (response_has (head_of_stored e) directive.NoStore) (not (response_has (head_of_stored e) directive.MustUnderstand)) (not_true (response_has (head_of_stored e) directive.MustUnderstand) lifted.0)
+  no_store_applies : NoStoreIsAbsentOrLifted (head_of_stored e) → response_has_directive (head_of_stored e) directive.NoStore && not (response_has_directive (head_of_stored e) directive.MustUnderstand) ≡ false
+  no_store_applies (inl absent) = first_absent (response_has_directive (head_of_stored e) directive.NoStore) (not (response_has_directive (head_of_stored e) directive.MustUnderstand)) absent
+  no_store_applies (inr lifted) = last_absent (response_has_directive (head_of_stored e) directive.NoStore) (not (response_has_directive (head_of_stored e) directive.MustUnderstand)) (not_true (response_has_directive (head_of_stored e) directive.MustUnderstand) lifted.0)
 
   authorization_applies : (has_line x.asked.fields (codes "Authorization") ≡ false) ⊎ ResponseAllowsSharedWithAuthorization (head_of_stored e) → has_line x.asked.fields (codes "Authorization") && not (allows_authorized (occurrences_of e.fields)) ≡ false
   authorization_applies (inl absent) = first_absent (has_line x.asked.fields (codes "Authorization")) (not (allows_authorized (occurrences_of e.fields))) absent
@@ -201,13 +201,13 @@ module _ (table : Table) (x : Exchange) (r : Response) (e : Stored) where
   none_applies may Operator = not_true (policy_of table.lines x.line).caches may.line_has_cache
   none_applies may Method = refl
   none_applies may Bypass =
-      neither (request_has_content x.asked || is_answer_to_its_range_alone (policy_of table.lines x.line) x.asked (head_of_stored e)) (has_precondition x.asked)
-      (neither (request_has_content x.asked) (is_answer_to_its_range_alone (policy_of table.lines x.line) x.asked (head_of_stored e)) may.no_content (for_no_range (policy_of table.lines x.line).forwards_ranges (asks_for_range x.asked) e.status may.is_not_for_its_range)) may.no_precondition
+      neither (request_has_content x.asked || answer_may_depend_on_range (policy_of table.lines x.line) x.asked (head_of_stored e)) (has_precondition_for_origin x.asked)
+      (neither (request_has_content x.asked) (answer_may_depend_on_range (policy_of table.lines x.line) x.asked (head_of_stored e)) may.no_content (for_no_range (policy_of table.lines x.line).forwards_ranges (asks_for_range x.asked) e.status may.is_not_for_its_range)) may.no_precondition
   none_applies may Status =
       neither (e.status == 206) (e.status == 304)
       (not_equal e.status 206 (λ is. never_understood e.status 206 is refl (may.status_is_understood (inl is))))
       (not_equal e.status 304 (λ is. never_understood e.status 304 is refl (may.status_is_understood (inr (inl is)))))
-  none_applies may MustUnderstand = implied (response_has (head_of_stored e) directive.MustUnderstand) (is_understood_status e.status) (λ must. may.status_is_understood (inr (inr must)))
+  none_applies may MustUnderstand = implied (response_has_directive (head_of_stored e) directive.MustUnderstand) (is_understood_status e.status) (λ must. may.status_is_understood (inr (inr must)))
   none_applies may ResponseNoStore = no_store_applies may.no_no_store
   none_applies may RequestNoStore = may.request_has_no_no_store
   none_applies may Private = may.not_private
@@ -228,12 +228,12 @@ module _ (table : Table) (x : Exchange) (r : Response) (e : Stored) where
 
 pub is_kept : FreshenedIsKeptWhereAllowed
 is_kept table x r e may =
-    both_true (is_none (storage_rule_of (as_get_request x.asked) (head_of_stored e) (storing_facts_of_freshened table x r e))) (head_leaves_room e.fields)
+    both_true (is_none (rule_against_storing (as_get_request x.asked) (head_of_stored e) (storing_facts_of_freshened table x r e))) (head_leaves_room e.fields)
     (ap is_none (no_rule_found (as_get_request x.asked) (head_of_stored e) (storing_facts_of_freshened table x r e) (none_applies table x r e may))) may.leaves_room
 
 pub may_be_kept : NothingElseFreshenedIsKept
 may_be_kept table x r e kept =
-    let parts = and_parts (is_none (storage_rule_of (as_get_request x.asked) (head_of_stored e) (storing_facts_of_freshened table x r e))) (head_leaves_room e.fields) kept in
+    let parts = and_parts (is_none (rule_against_storing (as_get_request x.asked) (head_of_stored e) (storing_facts_of_freshened table x r e))) (head_leaves_room e.fields) kept in
     in_words table x r e
     (λ any. no_rule_applies (as_get_request x.asked) (head_of_stored e) (storing_facts_of_freshened table x r e) any
-    (none_of (storage_rule_of (as_get_request x.asked) (head_of_stored e) (storing_facts_of_freshened table x r e)) parts.0)) parts.1
+    (none_of (rule_against_storing (as_get_request x.asked) (head_of_stored e) (storing_facts_of_freshened table x r e)) parts.0)) parts.1

@@ -2,7 +2,7 @@
 use Rattle.std.proofs.Common.{◌≡◌, inl, inr, ℕ, ◌<◌, Bool, true, false, cond, ltb, Option, None, Some, List, [], ◌∷◌, refl, sym, ◌∙◌, ap, subst, arith}
 use Rattle.std.proofs.lemmas.Bool.{eq-eqb, false≢true}
 use Rattle.std.proofs.lemmas.Bool.Decides.{nat_tests}
-use Rattle.hx_fields.specs.declared.limits.TheConstants.{END_OF_TIME}
+use Rattle.hx_fields.specs.declared.limits.TheConstants.{START_OF_YEAR_10000}
 use Rattle.hx_framing.specs.declared.messages.Response.{Response}
 use Rattle.hx_hop.specs.declared.request_view.Asked.{Asked}
 use Rattle.hx_allow.specs.TableLines.{Table}
@@ -11,7 +11,7 @@ use Rattle.proxy_core.specs.Allowing.{verdict_of_asked}
 use Rattle.hx_allow.specs.declared.verdicts.Verdict.{Verdict}
 use Rattle.hx_allow.specs.declared.verdicts.Verdict.TheVariants as verdict
 use Rattle.hx_allow.specs.declared.verdicts.Verdict.TheVariants.{Allowed}
-use Rattle.hx_allow.specs.declared.verdicts.RequestRoute.{RequestRoute}
+use Rattle.hx_allow.specs.declared.verdicts.RouteOverLine.{RouteOverLine}
 use Rattle.hx_store.specs.Stored.{Stored}
 use Rattle.hx_store.specs.Serials.{SerialsAreDistinct}
 use Rattle.hx_store.specs.Shelf.{serials}
@@ -28,8 +28,8 @@ use Rattle.proxy_core.specs.declared.steps.condition.Condition.{Condition}
 use Rattle.proxy_core.specs.declared.open.stage.Stage.{Stage}
 use Rattle.proxy_core.specs.declared.open.stage.Stage.TheVariants.{Forwarded, Waiting, Released}
 use Rattle.proxy_core.specs.declared.open.exchange.Exchange.{Exchange}
-use Rattle.proxy_core.specs.declared.steps.fallback.Fallback.{Fallback}
-use Rattle.proxy_core.specs.declared.steps.fallback.Fallback.TheVariants.{Sends, Refuses}
+use Rattle.proxy_core.specs.declared.steps.fallback.FallbackDecision.{FallbackDecision}
+use Rattle.proxy_core.specs.declared.steps.fallback.FallbackDecision.TheVariants.{Sends, Refuses}
 use Rattle.proxy_core.specs.declared.core_fault.CoreFault.{CoreFault}
 use Rattle.proxy_core.specs.declared.core_fault.CoreFault.TheVariants.{MomentTooLate}
 use Rattle.proxy_core.specs.declared.outcome.Outcome.{Outcome}
@@ -39,17 +39,17 @@ use Rattle.proxy_core.specs.declared.event.Event.TheVariants.{Arrive, Answer, Fa
 use Rattle.proxy_core.specs.Moments.{moment_too_late_fault}
 use Rattle.proxy_core.specs.Leading.{is_forwarded, is_released}
 use Rattle.proxy_core.specs.Storing.{is_304_without_condition}
-use Rattle.proxy_core.specs.Validating.{condition_about_serial, is_304_to_own_conditions, stored_response_validated}
-use Rattle.proxy_core.specs.Abouts.{about_by_outcome}
-use Rattle.proxy_core.specs.Outcomes.{find_exchange, exchange_id_of_event, outcome_of_event, outcome_for_exchange, fallback_for_failed_answer, outcome_of_wake, outcome_of_arrival, outcome_of_allowed_request, outcome_without_stored_response, outcome_of_waiting_or_forwarding, outcome_of_failure, outcome_of_passing_on_or_stale, outcome_of_304, outcome_of_answer, is_error_status, is_only_if_cached, forward_text, fault_else, fault_if_not_forwarded, fault_if_not_released, fault_at_exchange}
+use Rattle.proxy_core.specs.Validating.{condition_to_revalidate_serial, is_304_to_own_conditions, stored_response_validated_by_304}
+use Rattle.proxy_core.specs.Abouts.{report_by_outcome}
+use Rattle.proxy_core.specs.Outcomes.{find_exchange, exchange_id_of_event, outcome_of_event, outcome_of_event_at_exchange, fallback_for_failed_answer, outcome_of_wake, outcome_of_arrival, outcome_of_allowed_request, outcome_where_reuse_rule_applies, outcome_of_waiting_or_forwarding, outcome_of_failure, outcome_of_passing_on_or_stale, outcome_of_304, outcome_of_answer, is_stale_if_error_status, is_only_if_cached, forward_text, fault_else, fault_if_not_forwarded, fault_if_not_released, fault_at_exchange}
 use Rattle.proxy_core.specs.State.{serial_used_by_outcome, bounds_of}
-use Rattle.proxy_core.specs.Starts.{StoreAtStart, StartIsValid}
+use Rattle.proxy_core.specs.Starts.{StoreAtStart, StoreAtStartIsValid}
 use Rattle.proxy_core.specs.Traces.{Item, initial_state}
 use Rattle.proxy_core.specs.Histories.{held_entries, open_exchanges, next_serial, IsGoodHistory}
-use Rattle.proxy_core.specs.Promises.{outcome_goes_forward, request_after_event, latest_request_of}
-use Rattle.proxy_core.specs.Sending.{StoredResponseMayBeSentAt, RequestReachesCacheOrOrigin}
+use Rattle.proxy_core.specs.Promises.{outcome_goes_forward, latest_request_after_event, latest_request_of}
+use Rattle.proxy_core.specs.Sending.{StoredResponseMayBeSentAtEvent, RequestReachesCacheOrOrigin}
 use Rattle.proxy_core.specs.GoingOn.{EventSuitsExchange, NeedsSecondForward, IsClientReply, ExchangeContinuesByEvent, ConditionIsSentAtEvent}
-use Rattle.proxy_core.specs.Headline.{HoldsAtEachItem, EachEventSuitsExchange, RequestReachesCacheOrOriginIffAllowed, RequestGoesForwardWhereAllowed, ClientIsAnsweredAtTheNextStep, StoredResponseIsSentExactlyWhereItMayBe, SentResponseIsTheStoredOne, AnswerNotFromStoreNamesFirstRule, AnswerIsStoredExactlyWhereItMayBe, StoredResponsesAreRemovedExactlyWhereTheyMustBe, ConnectionClosesAsAsked, OutcomeIsReportedTruthfully, Headline, EveryGoodTraceHasTheHeadline}
+use Rattle.proxy_core.specs.Headline.{HoldsAtEachItem, EachEventSuitsExchange, RequestReachesCacheOrOriginIffAllowed, RequestGoesForwardOnlyWhereAllowed, ClientIsAnsweredAtTheNextStep, StoredResponseIsSentExactlyWhereItMayBe, SentResponseIsTheStoredOne, AnswerNotFromStoreNamesFirstRule, AnswerIsStoredExactlyWhereItMayBe, StoredResponsesAreRemovedExactlyWhereTheyMustBe, ConnectionClosesAsAsked, OutcomeIsReportedTruthfully, Headline, EveryGoodTraceHasTheHeadline}
 use Rattle.proxy_core.proofs.SentBeside.{led_over, sent_over, unless_sent}
 use Rattle.proxy_core.proofs.Carries.{IsAgain, again_by, carries_its_arrival}
 use Rattle.proxy_core.proofs.FirstRules.{held_distinct, names_first_rules}
@@ -65,15 +65,15 @@ use Rattle.proxy_core.proofs.Tracing.{denied_requests_leave_no_trace}
 use Rattle.proxy_core.proofs.TwiceForward.{twice_forward_one_reply}
 use Rattle.proxy_core.proofs.Unsent.{nothing_invalidated_is_sent, nothing_invalidated_since}
 
-not_forward : {P : Type 0} (o : Outcome) (line : RequestRoute) (bytes : List ℕ) → outcome_goes_forward o ≡ false → o ≡ Forward line bytes → P
+not_forward : {P : Type 0} (o : Outcome) (line : RouteOverLine) (bytes : List ℕ) → outcome_goes_forward o ≡ false → o ≡ Forward line bytes → P
 not_forward {P} o line bytes back h =
     let out : false ≡ true = sym back ∙ ap outcome_goes_forward h in
     absurd (cc)
 
 -- the request of an event goes to a line that allows it, with the conditions of that moment
-abbrev Goes : Table → List Stored → List Item → RequestRoute → List ℕ → Event → Type 0
+abbrev Goes : Table → List Stored → List Item → RouteOverLine → List ℕ → Event → Type 0
 Goes table es past line bytes event =
-    (asked : Asked) × (condition : Option Condition) × (request_after_event (exchange_id_of_event event) event (latest_request_of (exchange_id_of_event event) past) ≡ Some asked) × (verdict_of_asked table asked ≡ Allowed line)
+    (asked : Asked) × (condition : Option Condition) × (latest_request_after_event (exchange_id_of_event event) event (latest_request_of (exchange_id_of_event event) past) ≡ Some asked) × (verdict_of_asked table asked ≡ Allowed line)
     × ConditionIsSentAtEvent (policy_of table.lines line) es asked event condition × (bytes ≡ forward_text table line asked condition)
 
 abbrev bytes_in : Outcome → List ℕ
@@ -96,10 +96,10 @@ no_true {P} h = absurd (false≢true h)
 
 -- ---- when an event may come
 
-in_time : (now : ℕ) → moment_too_late_fault now ≡ None → now < END_OF_TIME
-in_time now h = by_test (ltb now END_OF_TIME) refl h
+in_time : (now : ℕ) → moment_too_late_fault now ≡ None → now < START_OF_YEAR_10000
+in_time now h = by_test (ltb now START_OF_YEAR_10000) refl h
   where
-    by_test : (b : Bool) → ltb now END_OF_TIME ≡ b → cond b None (Some MomentTooLate) ≡ None → now < END_OF_TIME
+    by_test : (b : Bool) → ltb now START_OF_YEAR_10000 ≡ b → cond b None (Some MomentTooLate) ≡ None → now < START_OF_YEAR_10000
     by_test true k h = grind (arith, nat_tests, k)
     by_test false k h = absurd (cc)
 
@@ -134,11 +134,11 @@ may_come None (Overdue id) h = absurd (cc)
 -- ---- what follows
 
 module _ (table : Table) (es : List Stored) where
-  failed_replies : (now : ℕ) (x : Exchange) (kind : FailKind) (came : Option ℕ) (fallback : Fallback) → IsClientReply (outcome_of_failure table es now x kind came fallback)
+  failed_replies : (now : ℕ) (x : Exchange) (kind : FailKind) (came : Option ℕ) (fallback : FallbackDecision) → IsClientReply (outcome_of_failure table es now x kind came fallback)
   failed_replies now x kind came (Sends serial detail) = (_, refl)
   failed_replies now x kind came (Refuses rule error) = (_, refl)
 
-  passed_replies : (now : ℕ) (x : Exchange) (r : Response) (next : Option ℕ) (b : Bool) (fallback : Fallback) → IsClientReply (outcome_of_passing_on_or_stale table es now x r next b fallback)
+  passed_replies : (now : ℕ) (x : Exchange) (r : Response) (next : Option ℕ) (b : Bool) (fallback : FallbackDecision) → IsClientReply (outcome_of_passing_on_or_stale table es now x r next b fallback)
   passed_replies now x r next true (Sends serial detail) = (_, refl)
   passed_replies now x r next true (Refuses rule error) = (_, refl)
   passed_replies now x r next false fallback = (_, refl)
@@ -159,26 +159,26 @@ module _ (table : Table) (es : List Stored) where
       Is : Outcome → Type 0
       Is o = (NeedsSecondForward table es x now id r → o ≡ Forward x.line (forward_text table x.line x.asked None)) × ((NeedsSecondForward table es x now id r → ⊥) → IsClientReply o)
 
-      validates : is_304_to_own_conditions x r ≡ true → (o : Option Stored) → stored_response_validated es x r now ≡ o → (k : Decision) → d ≡ k → Is (outcome_of_304 table es now x r o k)
+      validates : is_304_to_own_conditions x r ≡ true → (o : Option Stored) → stored_response_validated_by_304 es x r now ≡ o → (k : Decision) → d ≡ k → Is (outcome_of_304 table es now x r o k)
       validates y (Some e) v k dk = (λ asks. absurd (asks.1 e.serial (inl (y, (e, v, refl)))), λ no. (_, refl))
       validates y None v (decision.Hit s) dk =
           (λ asks. absurd (asks.1 s (inr (inl (y, v, reused_is_allowed (policy_of table.lines x.line) es x.asked now s dk)))), λ no. (_, refl))
       validates y None v (decision.Forward rule against) dk = (λ asks. refl, λ no. absurd (no (y, none_may)))
         where
-          none_may : (s : ℕ) → StoredResponseMayBeSentAt table es (Some x) (Answer now id r) s → ⊥
+          none_may : (s : ℕ) → StoredResponseMayBeSentAtEvent table es (Some x) (Answer now id r) s → ⊥
           none_may s (inl may) = some_or_not may.1.0 (sym may.1.1 ∙ v)
           none_may s (inr (inl may)) = hit_or_not s rule against (sym (reusable_hit (policy_of table.lines x.line) es distinct x.asked now s may.2) ∙ dk)
           none_may s (inr (inr may)) = no_true (sym may.0 ∙ y)
 
       by_304 : (b : Bool) → is_304_to_own_conditions x r ≡ b →
-          Is (cond b (outcome_of_304 table es now x r (stored_response_validated es x r now) d)
-          (cond (is_304_without_condition (policy_of table.lines x.line) x.asked r) (outcome_of_failure table es now x BadAnswer (Some r.status) (fallback_for_failed_answer (policy_of table.lines x.line) es x.asked now d)) (outcome_of_passing_on_or_stale table es now x r next (is_error_status r.status) (fallback_for_failed_answer (policy_of table.lines x.line) es x.asked now d))))
-      by_304 true k = validates k (stored_response_validated es x r now) refl d refl
+          Is (cond b (outcome_of_304 table es now x r (stored_response_validated_by_304 es x r now) d)
+          (cond (is_304_without_condition (policy_of table.lines x.line) x.asked r) (outcome_of_failure table es now x BadAnswer (Some r.status) (fallback_for_failed_answer (policy_of table.lines x.line) es x.asked now d)) (outcome_of_passing_on_or_stale table es now x r next (is_stale_if_error_status r.status) (fallback_for_failed_answer (policy_of table.lines x.line) es x.asked now d))))
+      by_304 true k = validates k (stored_response_validated_by_304 es x r now) refl d refl
       by_304 false k = (λ asks. no_true (sym k ∙ asks.0), λ no. by_unasked (is_304_without_condition (policy_of table.lines x.line) x.asked r))
         where
-          by_unasked : (b : Bool) → IsClientReply (cond b (outcome_of_failure table es now x BadAnswer (Some r.status) (fallback_for_failed_answer (policy_of table.lines x.line) es x.asked now d)) (outcome_of_passing_on_or_stale table es now x r next (is_error_status r.status) (fallback_for_failed_answer (policy_of table.lines x.line) es x.asked now d)))
+          by_unasked : (b : Bool) → IsClientReply (cond b (outcome_of_failure table es now x BadAnswer (Some r.status) (fallback_for_failed_answer (policy_of table.lines x.line) es x.asked now d)) (outcome_of_passing_on_or_stale table es now x r next (is_stale_if_error_status r.status) (fallback_for_failed_answer (policy_of table.lines x.line) es x.asked now d)))
           by_unasked true = failed_replies now x BadAnswer (Some r.status) (fallback_for_failed_answer (policy_of table.lines x.line) es x.asked now d)
-          by_unasked false = passed_replies now x r next (is_error_status r.status) (fallback_for_failed_answer (policy_of table.lines x.line) es x.asked now d)
+          by_unasked false = passed_replies now x r next (is_stale_if_error_status r.status) (fallback_for_failed_answer (policy_of table.lines x.line) es x.asked now d)
 
   wake_goes_on : (now id : ℕ) (x : Exchange) (k : Decision) → decision_of (policy_of table.lines x.line) es x.asked now ≡ k → ExchangeContinuesByEvent table es (Some x) (Wake now id) (outcome_of_wake table es now x k)
   wake_goes_on now id x (decision.Hit s) dk = inl (_, refl)
@@ -186,7 +186,7 @@ module _ (table : Table) (es : List Stored) where
       let named = names_the_least (policy_of table.lines x.line) es x.asked now rule against dk in
       inr (rule, record { is_least = named.0; against = against; names = named.1; outcome_is = refl })
 
-  goes_on_by : SerialsAreDistinct (serials es) → (xs : List Exchange) (x : Option Exchange) (next : Option ℕ) (event : Event) → fault_at_exchange x event ≡ None → ExchangeContinuesByEvent table es x event (outcome_for_exchange table es xs x next event)
+  goes_on_by : SerialsAreDistinct (serials es) → (xs : List Exchange) (x : Option Exchange) (next : Option ℕ) (event : Event) → fault_at_exchange x event ≡ None → ExchangeContinuesByEvent table es x event (outcome_of_event_at_exchange table es xs x next event)
   goes_on_by distinct xs x next (Arrive now id asked) h = tt
   goes_on_by distinct xs (Some x) next (Answer now id r) h = answer_goes_on distinct now id x r next
   goes_on_by distinct xs None next (Answer now id r) h = absurd (cc)
@@ -207,7 +207,7 @@ module _ (table : Table) (es : List Stored) where
       on condition None = refl
       on condition (Some leader) = refl
 
-      unless : (rule : ReuseRule) (condition : Option Condition) (b : Bool) → close_in asked.close (outcome_without_stored_response table es xs line now asked rule condition b) ≡ asked.close
+      unless : (rule : ReuseRule) (condition : Option Condition) (b : Bool) → close_in asked.close (outcome_where_reuse_rule_applies table es xs line now asked rule condition b) ≡ asked.close
       unless rule condition true = refl
       unless rule condition false =
           unless_sent (λ (o : Outcome). close_in asked.close o ≡ asked.close) table es line now asked (sent_over table es xs line now asked rule) (outcome_of_waiting_or_forwarding table line asked condition (led_over table es xs line asked rule))
@@ -215,13 +215,13 @@ module _ (table : Table) (es : List Stored) where
 
       by_decision : (d : Decision) → close_in asked.close (outcome_of_allowed_request table es xs line now asked d) ≡ asked.close
       by_decision (decision.Hit s) = refl
-      by_decision (decision.Forward rule against) = unless rule (condition_about_serial es against) (is_only_if_cached asked)
+      by_decision (decision.Forward rule against) = unless rule (condition_to_revalidate_serial es against) (is_only_if_cached asked)
   arrival_closes xs now asked (verdict.DeniedBy line) = refl
   arrival_closes xs now asked verdict.NoLine = refl
   arrival_closes xs now asked (verdict.Looped line) = refl
   arrival_closes xs now asked (verdict.Purged line) = refl
 
-  failed_closes : (now : ℕ) (x : Exchange) (kind : FailKind) (came : Option ℕ) (fallback : Fallback) → close_in x.asked.close (outcome_of_failure table es now x kind came fallback) ≡ x.asked.close
+  failed_closes : (now : ℕ) (x : Exchange) (kind : FailKind) (came : Option ℕ) (fallback : FallbackDecision) → close_in x.asked.close (outcome_of_failure table es now x kind came fallback) ≡ x.asked.close
   failed_closes now x kind came (Sends serial detail) = refl
   failed_closes now x kind came (Refuses rule error) = refl
 
@@ -233,18 +233,18 @@ module _ (table : Table) (es : List Stored) where
       validates None (decision.Hit s) = refl
       validates None (decision.Forward rule against) = refl
 
-      passes : (b : Bool) (fallback : Fallback) → close_in x.asked.close (outcome_of_passing_on_or_stale table es now x r next b fallback) ≡ x.asked.close
+      passes : (b : Bool) (fallback : FallbackDecision) → close_in x.asked.close (outcome_of_passing_on_or_stale table es now x r next b fallback) ≡ x.asked.close
       passes true (Sends serial detail) = refl
       passes true (Refuses rule error) = refl
       passes false fallback = refl
 
-      by_unasked : (b : Bool) → close_in x.asked.close (cond b (outcome_of_failure table es now x BadAnswer (Some r.status) (fallback_for_failed_answer (policy_of table.lines x.line) es x.asked now d)) (outcome_of_passing_on_or_stale table es now x r next (is_error_status r.status) (fallback_for_failed_answer (policy_of table.lines x.line) es x.asked now d))) ≡ x.asked.close
+      by_unasked : (b : Bool) → close_in x.asked.close (cond b (outcome_of_failure table es now x BadAnswer (Some r.status) (fallback_for_failed_answer (policy_of table.lines x.line) es x.asked now d)) (outcome_of_passing_on_or_stale table es now x r next (is_stale_if_error_status r.status) (fallback_for_failed_answer (policy_of table.lines x.line) es x.asked now d))) ≡ x.asked.close
       by_unasked true = failed_closes now x BadAnswer (Some r.status) (fallback_for_failed_answer (policy_of table.lines x.line) es x.asked now d)
-      by_unasked false = passes (is_error_status r.status) (fallback_for_failed_answer (policy_of table.lines x.line) es x.asked now d)
+      by_unasked false = passes (is_stale_if_error_status r.status) (fallback_for_failed_answer (policy_of table.lines x.line) es x.asked now d)
 
-      by_304 : (b : Bool) → close_in x.asked.close (cond b (outcome_of_304 table es now x r (stored_response_validated es x r now) d)
-          (cond (is_304_without_condition (policy_of table.lines x.line) x.asked r) (outcome_of_failure table es now x BadAnswer (Some r.status) (fallback_for_failed_answer (policy_of table.lines x.line) es x.asked now d)) (outcome_of_passing_on_or_stale table es now x r next (is_error_status r.status) (fallback_for_failed_answer (policy_of table.lines x.line) es x.asked now d)))) ≡ x.asked.close
-      by_304 true = validates (stored_response_validated es x r now) d
+      by_304 : (b : Bool) → close_in x.asked.close (cond b (outcome_of_304 table es now x r (stored_response_validated_by_304 es x r now) d)
+          (cond (is_304_without_condition (policy_of table.lines x.line) x.asked r) (outcome_of_failure table es now x BadAnswer (Some r.status) (fallback_for_failed_answer (policy_of table.lines x.line) es x.asked now d)) (outcome_of_passing_on_or_stale table es now x r next (is_stale_if_error_status r.status) (fallback_for_failed_answer (policy_of table.lines x.line) es x.asked now d)))) ≡ x.asked.close
+      by_304 true = validates (stored_response_validated_by_304 es x r now) d
       by_304 false = by_unasked (is_304_without_condition (policy_of table.lines x.line) x.asked r)
 
   wake_closes : (now : ℕ) (x : Exchange) (d : Decision) → close_in x.asked.close (outcome_of_wake table es now x d) ≡ x.asked.close
@@ -263,7 +263,7 @@ module _ (table : Table) (es : List Stored) where
   Closes x (Abandon id) o = o ≡ Ended
   Closes x (Overdue id) o = o ≡ WaitsNoMore
 
-  closes_by : (xs : List Exchange) (x : Option Exchange) (next : Option ℕ) (event : Event) → fault_at_exchange x event ≡ None → Closes x event (outcome_for_exchange table es xs x next event)
+  closes_by : (xs : List Exchange) (x : Option Exchange) (next : Option ℕ) (event : Event) → fault_at_exchange x event ≡ None → Closes x event (outcome_of_event_at_exchange table es xs x next event)
   closes_by xs x next (Arrive now id asked) h = arrival_closes xs now asked (verdict_of_asked table asked)
   closes_by xs (Some x) next (Answer now id r) h = answer_closes now x r next (decision_of (policy_of table.lines x.line) es x.asked now)
   closes_by xs None next (Answer now id r) h = absurd (cc)
@@ -280,7 +280,7 @@ module _ (table : Table) (start : StoreAtStart) (first : ℕ) where
       item.outcome ≡ outcome_of_event table (held_entries table start past) (open_exchanges table start past) (next_serial first past) event
   outcome_at item past g event e = g.0.outcome_is ∙ ap (λ (v : Event). outcome_of_event table (held_entries table start past) (open_exchanges table start past) (next_serial first past) v) e
 
-  goes : (item : Item) (past : List Item) → IsGoodHistory table start first (item ∷ past) → RequestGoesForwardWhereAllowed table start item past
+  goes : (item : Item) (past : List Item) → IsGoodHistory table start first (item ∷ past) → RequestGoesForwardOnlyWhereAllowed table start item past
   goes item past g line bytes h = by_event item.event refl
     where
       es : List Stored
@@ -297,7 +297,7 @@ module _ (table : Table) (start : StoreAtStart) (first : ℕ) where
           never_used s h = cc
       by_arrival now id asked v (inr (inl (rule, goes, others, nobody))) = (
         asked,
-        condition_about_serial es goes.against,
+        condition_to_revalidate_serial es goes.against,
         ap (λ b. cond b (Some asked) (latest_request_of id past)) (eq-eqb id id refl),
         v,
         (rule, goes.against, goes.is_least, goes.names, refl),
@@ -307,20 +307,20 @@ module _ (table : Table) (start : StoreAtStart) (first : ℕ) where
       by_arrival now id asked v (inr (inr (inr (rule, only, least, is)))) = not_forward item.outcome line bytes (ap outcome_goes_forward is) h
 
       by_answer : (now id : ℕ) (r : Response) (w : Option Exchange) → find_exchange id xs ≡ w →
-          Forward line bytes ≡ outcome_for_exchange table es xs w (next_serial first past) (Answer now id r) → Goes table es past line bytes (Answer now id r)
+          Forward line bytes ≡ outcome_of_event_at_exchange table es xs w (next_serial first past) (Answer now id r) → Goes table es past line bytes (Answer now id r)
       by_answer now id r None w_is o = absurd (cc)
       by_answer now id r (Some x) w_is o =
           let again = subst (IsAgain table x) (sym o) (again_by table es now x r (next_serial first past) (decision_of (policy_of table.lines x.line) es x.asked now)) in
           let carried = (carries_its_arrival table start first id past x g.1 w_is).0 in
           (x.asked, None, has_its_request table start first id past x g.1 w_is, carried.line_allows ∙ ap (λ n. Allowed n) (sym again.0), refl, again.1 ∙ ap (λ n. forward_text table n x.asked None) (sym again.0))
 
-      by_failure : (now id : ℕ) (kind : FailKind) (w : Option Exchange) → Forward line bytes ≡ outcome_for_exchange table es xs w (next_serial first past) (Fail now id kind) → Goes table es past line bytes (Fail now id kind)
+      by_failure : (now id : ℕ) (kind : FailKind) (w : Option Exchange) → Forward line bytes ≡ outcome_of_event_at_exchange table es xs w (next_serial first past) (Fail now id kind) → Goes table es past line bytes (Fail now id kind)
       by_failure now id kind None o = absurd (cc)
       by_failure now id kind (Some x) o =
           not_forward _ line bytes (failed_back table es now x kind None (fallback_for_failed_answer (policy_of table.lines x.line) es x.asked now (decision_of (policy_of table.lines x.line) es x.asked now))) (sym o)
 
       by_wake : (now id : ℕ) (w : Option Exchange) → find_exchange id xs ≡ w →
-          Forward line bytes ≡ outcome_for_exchange table es xs w (next_serial first past) (Wake now id) → Goes table es past line bytes (Wake now id)
+          Forward line bytes ≡ outcome_of_event_at_exchange table es xs w (next_serial first past) (Wake now id) → Goes table es past line bytes (Wake now id)
       by_wake now id None w_is o = absurd (cc)
       by_wake now id (Some x) w_is o = by_decision (decision_of (policy_of table.lines x.line) es x.asked now) refl o
         where
@@ -331,11 +331,11 @@ module _ (table : Table) (start : StoreAtStart) (first : ℕ) where
               let carried = (carries_its_arrival table start first id past x g.1 w_is).0 in
               let named = names_the_least (policy_of table.lines x.line) es x.asked now rule against k in (
                 x.asked,
-                condition_about_serial es against,
+                condition_to_revalidate_serial es against,
                 has_its_request table start first id past x g.1 w_is,
                 carried.line_allows ∙ ap (λ n. Allowed n) (sym same),
                 (rule, against, subst (λ n. IsLeastReuseRule (policy_of table.lines n) es x.asked now rule) (sym same) named.0, named.1, refl),
-                ap bytes_in h ∙ ap (λ n. forward_text table n x.asked (condition_about_serial es against)) (sym same),
+                ap bytes_in h ∙ ap (λ n. forward_text table n x.asked (condition_to_revalidate_serial es against)) (sym same),
               )
 
       by_event : (event : Event) → item.event ≡ event → Goes table es past line bytes item.event
@@ -383,7 +383,7 @@ module _ (table : Table) (start : StoreAtStart) (first : ℕ) where
       (closes_by table (held_entries table start past) (open_exchanges table start past) (find_exchange (exchange_id_of_event item.event) (open_exchanges table start past)) (next_serial first past) item.event g.0.allowed))
     where
       Is : Event → Type 0
-      Is event = (asked : Asked) × (request_after_event (exchange_id_of_event event) event (latest_request_of (exchange_id_of_event event) past) ≡ Some asked) × (reply.close ≡ asked.close)
+      Is event = (asked : Asked) × (latest_request_after_event (exchange_id_of_event event) event (latest_request_of (exchange_id_of_event event) past) ≡ Some asked) × (reply.close ≡ asked.close)
 
       closed_by : (c : Bool) → close_in c item.outcome ≡ c → reply.close ≡ c
       closed_by c k = sym (ap (close_in c) h) ∙ k
@@ -412,7 +412,7 @@ module _ (table : Table) (start : StoreAtStart) (first : ℕ) where
   each P f (item ∷ past) g = (f item past g, each P f past g.1)
 
   -- what is held at first may be
-  begins : (trace : List Item) → IsGoodHistory table start first trace → StartIsValid (bounds_of table start.limit) (Some first) start.entries
+  begins : (trace : List Item) → IsGoodHistory table start first trace → StoreAtStartIsValid (bounds_of table start.limit) (Some first) start.entries
   begins [] g = g
   begins (item ∷ past) g = begins past g.1
 
@@ -424,7 +424,7 @@ module _ (table : Table) (start : StoreAtStart) (first : ℕ) where
         events_fit_exchanges = each (EachEventSuitsExchange table start) comes trace g;
         reaches_cache_or_origin_iff_allowed = each (RequestReachesCacheOrOriginIffAllowed table start)
             (λ item past g now id asked e. (λ line v. reaches_cache_or_origin_iff_allowed table start first now id line asked item past g e v, (λ p. purges_its_scope table start first now id asked item past g e p, λ n p. refuses_where_not_allowed table start first now id asked item past g e n p))) trace g;
-        goes_forward_where_allowed = each (RequestGoesForwardWhereAllowed table start) goes trace g;
+        goes_forward_where_allowed = each (RequestGoesForwardOnlyWhereAllowed table start) goes trace g;
         client_is_answered = each (ClientIsAnsweredAtTheNextStep table start) goes_on trace g;
         sends_stored_where_allowed = each (StoredResponseIsSentExactlyWhereItMayBe table start)
             (λ item past g s. (λ may. sends_what_may_be_sent table start first s item past g may, λ h. sends_nothing_else table start first s item past g h)) trace g;
@@ -433,7 +433,7 @@ module _ (table : Table) (start : StoreAtStart) (first : ℕ) where
         stores_where_allowed = each (AnswerIsStoredExactlyWhereItMayBe table start first) stores trace g;
         removes_exactly_what_must_go = each (StoredResponsesAreRemovedExactlyWhereTheyMustBe table start) (λ item past g. (removes_just_that table start first item past g, purges_where_said table start first item past g, expires_just_that table start first item past g)) trace g;
         closes_as_asked = each ConnectionClosesAsAsked closes trace g;
-        outcome_is_reported_truthfully = each (OutcomeIsReportedTruthfully table start first) (λ item past g. ap about_by_outcome g.0.outcome_is) trace g;
+        outcome_is_reported_truthfully = each (OutcomeIsReportedTruthfully table start first) (λ item past g. ap report_by_outcome g.0.outcome_is) trace g;
         nothing_invalidated_is_sent = nothing_invalidated_is_sent table start first trace plain;
         nothing_invalidated_since = nothing_invalidated_since table start first trace plain;
         twice_forward_one_reply = twice_forward_one_reply (initial_state table start first) trace plain;

@@ -3,13 +3,13 @@ use Rattle.std.proofs.Common.{◌≡◌, ℕ, ◌+◌, true, false, cond, ◌||�
 use Rattle.std.proofs.lemmas.Bool.{false≢true, eqb-true, ne_eqb, or_parts, false_from_ne_true}
 use Rattle.std.proofs.lemmas.Option.{same_Some}
 use Rattle.hx_store.specs.Stored.{Stored}
-use Rattle.hx_store.specs.Shelf.{holds_serial, find_entry, without_serials, entries_with_promoted, entries_with_first_if_any}
+use Rattle.hx_store.specs.Shelf.{holds_serial, find_entry_of_serial, without_serials, entries_with_promoted, entries_with_first_if_any}
 use Rattle.hx_store.specs.Weights.{StoreBounds, cut_to_bounds, weight_of_entry}
 use Rattle.hx_store.proofs.EntryLists.{filter_keeps, find_holds}
 use Rattle.hx_store.proofs.Fronts.{front_of_within}
 use Rattle.proxy_core.specs.declared.replies.pending.Change.{Change}
 use Rattle.proxy_core.specs.declared.replies.pending.Change.TheVariants.{Keep, Use, Freshen, Remove, Store}
-use Rattle.proxy_core.specs.State.{NoSerialIsHeldFrom, entries_without_serials, serial_after_this, next_serial_after}
+use Rattle.proxy_core.specs.State.{NoSerialIsHeldFrom, entries_without_serials, serial_after_this, next_serial_after_storing}
 use Rattle.proxy_core.specs.Pending.{serial_stored_by_change, entries_after_change, StoresUnderNextSerial, StoresNewSerial, FreshensHeldResponse}
 
 front_none : (s : ℕ) (o : Option Stored) (es rest : List Stored) → ((x : Stored) → o ≡ Some x → holds_serial x.serial es ≡ true) →
@@ -22,7 +22,7 @@ front_none s (Some x) es rest f h r =
 pub NoneFrom-promoted : (next : Option ℕ) (s : ℕ) (es zs : List Stored) → zs ≡ entries_with_promoted s es → NoSerialIsHeldFrom next es → NoSerialIsHeldFrom next zs
 NoneFrom-promoted None s es zs e h = tt
 NoneFrom-promoted (Some n) s es zs e h = λ t l.
-    ap (holds_serial t) e ∙ front_none t (find_entry s es) es (without_serials (s ∷ []) es) (λ x g. find_holds s es x g) (h t l) (filter_keeps _ t es (h t l))
+    ap (holds_serial t) e ∙ front_none t (find_entry_of_serial s es) es (without_serials (s ∷ []) es) (λ x g. find_holds s es x g) (h t l) (filter_keeps _ t es (h t l))
 
 NoneFrom-put : (n : ℕ) (gone : List ℕ) (es zs : List Stored) (x : Stored) → zs ≡ x ∷ without_serials gone es → x.serial ≡ n →
     NoSerialIsHeldFrom (Some n) es → NoSerialIsHeldFrom (Some (n + 1)) zs
@@ -63,7 +63,7 @@ NoneFrom-cut (Some n) bounds es h = λ t l.
 
 -- a pending reply leaves no serial held from the next one on
 pub NoneFrom-finished : (bounds : StoreBounds) (next : Option ℕ) (removed : List ℕ) (c : Change) (es : List Stored) → StoresUnderNextSerial next c → FreshensHeldResponse c es → NoSerialIsHeldFrom next es
-    → NoSerialIsHeldFrom (next_serial_after next (serial_stored_by_change c)) (entries_after_change bounds removed c es)
+    → NoSerialIsHeldFrom (next_serial_after_storing next (serial_stored_by_change c)) (entries_after_change bounds removed c es)
 NoneFrom-finished bounds next removed Keep es is held h = NoneFrom-taken next removed es h
 NoneFrom-finished bounds next removed (Use serial) es is held h =
     NoneFrom-cut next bounds _ (NoneFrom-taken next removed (entries_with_promoted serial es) (NoneFrom-promoted next serial es _ refl h))

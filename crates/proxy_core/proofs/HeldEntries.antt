@@ -9,7 +9,7 @@ use Rattle.hx_target.specs.Keys.{same_key}
 use Rattle.hx_store.specs.Stored.{Stored}
 use Rattle.hx_store.specs.Serials.{serial_is_in}
 use Rattle.hx_store.specs.Weights.{StoreBounds, WeightsAreThoseOfEntries, cut_to_bounds, weight_of_entry}
-use Rattle.hx_store.specs.Shelf.{serials, holds_serial, find_entry, without_serials, serials_of_key, serials_of_entries_that_pass}
+use Rattle.hx_store.specs.Shelf.{serials, holds_serial, find_entry_of_serial, without_serials, serials_of_key, serials_of_entries_that_pass}
 use Rattle.hx_store.proofs.FoundSerials.{finds_those}
 use Rattle.hx_store.proofs.PassingEntries.{finds_passing}
 use Rattle.hx_store.proofs.Fronts.{front_of_within}
@@ -102,26 +102,26 @@ unfolding EachIs
 EachIs-map f same look [] h = tt
 EachIs-map f same look (e ∷ es) h = (ap (λ s. option_map f (look s)) (same e) ∙ ap (option_map f) h.0, EachIs-map f same look es h.1)
 
-pub EachIs-find : (look : ℕ → Option Stored) (s : ℕ) (es : List Stored) (e : Stored) → find_entry s es ≡ Some e → EachIs look es → look s ≡ Some e
+pub EachIs-find : (look : ℕ → Option Stored) (s : ℕ) (es : List Stored) (e : Stored) → find_entry_of_serial s es ≡ Some e → EachIs look es → look s ≡ Some e
 unfolding EachIs
 EachIs-find look s [] e f g = absurd (cc)
 EachIs-find look s (x ∷ es) e f g = elim (cases_Bool (eqb x.serial s)) [
   | inl t ↦ (
-      let k : x ≡ e = same_Some x e (sym (ap (λ b. cond b (Some x) (find_entry s es)) t) ∙ f) in
+      let k : x ≡ e = same_Some x e (sym (ap (λ b. cond b (Some x) (find_entry_of_serial s es)) t) ∙ f) in
       ap look (sym (eqb-true x.serial s t)) ∙ g.0 ∙ ap (λ y. Some y) k
       )
-  | inr n ↦ EachIs-find look s es e (sym (ap (λ b. cond b (Some x) (find_entry s es)) n) ∙ f) g.1
+  | inr n ↦ EachIs-find look s es e (sym (ap (λ b. cond b (Some x) (find_entry_of_serial s es)) n) ∙ f) g.1
 ]
 
 -- a held serial has its response
-pub held_found : (s : ℕ) (es : List Stored) → holds_serial s es ≡ true → (e : Stored) × (find_entry s es ≡ Some e)
+pub held_found : (s : ℕ) (es : List Stored) → holds_serial s es ≡ true → (e : Stored) × (find_entry_of_serial s es ≡ Some e)
 held_found s [] h = absurd (false≢true h)
 held_found s (e ∷ es) h = go (eqb e.serial s) refl (held_found s es)
   where
-    go : (b : Bool) → eqb e.serial s ≡ b → (holds_serial s es ≡ true → (x : Stored) × (find_entry s es ≡ Some x)) → (x : Stored) × (find_entry s (e ∷ es) ≡ Some x)
-    go true k f = (e, ap (λ b. cond b (Some e) (find_entry s es)) k)
+    go : (b : Bool) → eqb e.serial s ≡ b → (holds_serial s es ≡ true → (x : Stored) × (find_entry_of_serial s es ≡ Some x)) → (x : Stored) × (find_entry_of_serial s (e ∷ es) ≡ Some x)
+    go true k f = (e, ap (λ b. cond b (Some e) (find_entry_of_serial s es)) k)
     go false k f =
-        let r = f (sym (ap (λ b. b || holds_serial s es) k) ∙ h) in (r.0, ap (λ b. cond b (Some e) (find_entry s es)) k ∙ r.1)
+        let r = f (sym (ap (λ b. b || holds_serial s es) k) ∙ h) in (r.0, ap (λ b. cond b (Some e) (find_entry_of_serial s es)) k ∙ r.1)
 
 and_none : (a : Bool) → (a && false) ≡ false
 and_none true = refl
@@ -139,17 +139,17 @@ none_any key s (e ∷ es) h =
 pub none_of_key : (key : Key) (s : ℕ) (es : List Stored) → holds_serial s es ≡ false → serial_is_in s (serials_of_key key es) ≡ false
 none_of_key key s es h = finds_those key s es ∙ none_any key s es h
 
-some_any : (passes : Stored → Bool) (s : ℕ) (es : List Stored) (e : Stored) → find_entry s es ≡ Some e → passes e ≡ true →
+some_any : (passes : Stored → Bool) (s : ℕ) (es : List Stored) (e : Stored) → find_entry_of_serial s es ≡ Some e → passes e ≡ true →
     list_any (λ (e : Stored). passes e && eqb e.serial s) es ≡ true
 some_any passes s [] e f h = absurd (cc)
 some_any passes s (x ∷ es) e f h = elim (cases_Bool (eqb x.serial s)) [
   | inl t ↦ (
-      let same : x ≡ e = same_Some x e (sym (ap (λ b. cond b (Some x) (find_entry s es)) t) ∙ f) in
+      let same : x ≡ e = same_Some x e (sym (ap (λ b. cond b (Some x) (find_entry_of_serial s es)) t) ∙ f) in
       ap (λ b. (passes x && b) || list_any (λ (e : Stored). passes e && eqb e.serial s) es) t
       ∙ ap (λ b. (b && true) || list_any (λ (e : Stored). passes e && eqb e.serial s) es) (ap passes same ∙ h)
       )
   | inr n ↦ (
-      let more = some_any passes s es e (sym (ap (λ b. cond b (Some x) (find_entry s es)) n) ∙ f) h in
+      let more = some_any passes s es e (sym (ap (λ b. cond b (Some x) (find_entry_of_serial s es)) n) ∙ f) h in
       ap (λ b. (passes x && b) || list_any (λ (e : Stored). passes e && eqb e.serial s) es) n
       ∙ ap (λ b. b || list_any (λ (e : Stored). passes e && eqb e.serial s) es) (and_none (passes x))
       ∙ more
@@ -157,5 +157,5 @@ some_any passes s (x ∷ es) e f h = elim (cases_Bool (eqb x.serial s)) [
 ]
 
 -- what is held and passes a test is found by it
-pub some_passing : (passes : Stored → Bool) (s : ℕ) (es : List Stored) (e : Stored) → find_entry s es ≡ Some e → passes e ≡ true → serial_is_in s (serials_of_entries_that_pass passes es) ≡ true
+pub some_passing : (passes : Stored → Bool) (s : ℕ) (es : List Stored) (e : Stored) → find_entry_of_serial s es ≡ Some e → passes e ≡ true → serial_is_in s (serials_of_entries_that_pass passes es) ≡ true
 some_passing passes s es e f h = finds_passing passes s es ∙ some_any passes s es e f h

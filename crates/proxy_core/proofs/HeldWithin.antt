@@ -15,7 +15,7 @@ use Rattle.hx_store.specs.Serials.{serial_is_in}
 use Rattle.hx_store.specs.Shelf.{serials, without_serials, entries_with_first_if_any}
 use Rattle.hx_store.specs.Recency.{option_is_serial, held_serials_of}
 use Rattle.hx_store.specs.WeightedRecency.{serials_within_bounds}
-use Rattle.hx_store.specs.Weights.{StoreBounds, IsWithinBounds, weight_of_entry, weight_of_line, weight_of_lines, cut_to_bounds}
+use Rattle.hx_store.specs.Weights.{StoreBounds, IsWithinBounds, weight_of_entry, weight_of_field_line, weight_of_lines, cut_to_bounds}
 use Rattle.hx_store.proofs.Fronts.{first_stays}
 use Rattle.hx_store.proofs.WeightedRecency.{held_by_number}
 use Rattle.proxy_core.specs.declared.open.exchange.Exchange.{Exchange}
@@ -23,11 +23,11 @@ use Rattle.proxy_core.specs.declared.event.Event.{Event}
 use Rattle.proxy_core.specs.declared.event.Event.TheVariants.{Answer}
 use Rattle.proxy_core.specs.Outcomes.{find_exchange, exchange_id_of_event}
 use Rattle.proxy_core.specs.Storing.{stored_response_made, weight_of_answer}
-use Rattle.proxy_core.specs.Validating.{without_cookies}
-use Rattle.proxy_core.specs.State.{bounds_of, serial_stored_by_outcome, serial_used_by_outcome, serials_removed_by_outcome, stored_response_by_answer, entries_after_event, entries_after_use, entries_after_storing, evicted_if_stored_or_used, serials_expired_by_outcome, stored_response_as_used, entries_after_expiring}
+use Rattle.proxy_core.specs.Validating.{without_set_cookie_if}
+use Rattle.proxy_core.specs.State.{bounds_of, serial_stored_by_outcome, serial_used_by_outcome, serials_removed_by_outcome, stored_response_by_answer, entries_after_event, entries_after_use, entries_after_removal_and_storing, cut_to_bounds_if_stored_or_used, serials_expired_by_outcome, stored_response_freshened_by_event, entries_after_expiring}
 use Rattle.proxy_core.specs.Starts.{StoreAtStart, change_that_stores}
 use Rattle.proxy_core.specs.Traces.{Item, initial_state, state_after_trace}
-use Rattle.proxy_core.specs.Histories.{store_change_of, store_changes, held_entry, held_entries, open_exchanges, response_if_any_after_expiring, IsGoodHistory}
+use Rattle.proxy_core.specs.Histories.{store_change_of, store_changes, entry_held_after, held_entries, open_exchanges, response_if_any_after_expiring, IsGoodHistory}
 use Rattle.proxy_core.specs.StoredAnswers.{OutcomeExpiresExactlyWhatItMust}
 use Rattle.proxy_core.specs.Bounds.{HeldResponsesAreWithinTheBounds, StoredResponseIsHeldIfRoom, StoredWeighsNoMoreThanTheStore, WithoutByteBoundHeldIsByNumber, StoreChangesFollowFromOutcomes}
 use Rattle.proxy_core.proofs.Beginning.{changes_are_start}
@@ -60,9 +60,9 @@ held_by_number_alone table start past none =
 -- ---- what is stored
 
 fewer_weigh : (name : List ℕ) (fields : List Field) → weight_of_lines (without_named fields name) ≤ weight_of_lines fields
-fewer_weigh name fields = omega (arith, sum_by-filter_both (λ f. not (is_named name f)) (λ f. not (not (is_named name f))) (λ f. refl) weight_of_line fields)
+fewer_weigh name fields = omega (arith, sum_by-filter_both (λ f. not (is_named name f)) (λ f. not (not (is_named name f))) (λ f. refl) weight_of_field_line fields)
 
-others_weigh : (removes : Bool) (fields : List Field) → weight_of_lines (without_cookies removes fields) ≤ weight_of_lines fields
+others_weigh : (removes : Bool) (fields : List Field) → weight_of_lines (without_set_cookie_if removes fields) ≤ weight_of_lines fields
 others_weigh true fields = fewer_weigh (codes "Set-Cookie") fields
 others_weigh false fields = omega arith
 
@@ -70,8 +70,8 @@ others_weigh false fields = omega arith
 made_weighs : (serial : ℕ) (x : Exchange) (r : Response) (now : ℕ) → weight_of_entry (stored_response_made serial x r now) ≤ weight_of_answer x r now
 made_weighs serial x r now =
     let fields = (answered_of r now).fields in
-    let others = others_weigh x.removes_cookies fields in
-    let fewer = fewer_weigh (codes "Age") (without_cookies x.removes_cookies fields) in
+    let others = others_weigh x.removes_set_cookie fields in
+    let fewer = fewer_weigh (codes "Age") (without_set_cookie_if x.removes_set_cookie fields) in
     omega (arith, others, fewer)
 
 made_fits : (bound : Option ℕ) (serial : ℕ) (x : Exchange) (r : Response) (now : ℕ) → IfSome bound (λ most. weight_of_answer x r now ≤ most) → IfSome bound (λ most. weight_of_entry (stored_response_made serial x r now) ≤ most)
@@ -119,11 +119,11 @@ pub stored_weighs_no_more : StoredWeighsNoMoreThanTheStore
 stored_weighs_no_more table start first serial e item past good stored look =
     let m = made_by table start first serial item past good stored in
     let x = find_exchange (exchange_id_of_event item.event) (open_exchanges table start past) in
-    let before = held_entry table start past serial in
-    let made_or_used : Option Stored = cond (option_is_serial (serial_stored_by_outcome item.outcome) serial) (stored_response_by_answer x item.event serial) (cond (option_is_serial (serial_used_by_outcome item.outcome) serial) (option_map (stored_response_as_used x item.event) before) before) in
-    let form : held_entry table start (item ∷ past) serial ≡ Some m.made =
+    let before = entry_held_after table start past serial in
+    let made_or_used : Option Stored = cond (option_is_serial (serial_stored_by_outcome item.outcome) serial) (stored_response_by_answer x item.event serial) (cond (option_is_serial (serial_used_by_outcome item.outcome) serial) (option_map (stored_response_freshened_by_event x item.event) before) before) in
+    let form : entry_held_after table start (item ∷ past) serial ≡ Some m.made =
     ap (λ gone. response_if_any_after_expiring item.event gone made_or_used) (stores_expires table start first serial item past good stored)
-    ∙ first_of serial (serial_stored_by_outcome item.outcome) (stored_response_by_answer x item.event serial) (cond (option_is_serial (serial_used_by_outcome item.outcome) serial) (option_map (stored_response_as_used x item.event) before) before) stored ∙ m.is in
+    ∙ first_of serial (serial_stored_by_outcome item.outcome) (stored_response_by_answer x item.event serial) (cond (option_is_serial (serial_used_by_outcome item.outcome) serial) (option_map (stored_response_freshened_by_event x item.event) before) before) stored ∙ m.is in
     subst (λ (f : Stored). IfSome table.max_store (λ most. weight_of_entry f ≤ most)) (some_same (sym form ∙ look)) m.fits
 
 pub stored_is_held : StoredResponseIsHeldIfRoom
@@ -139,8 +139,8 @@ stored_is_held table start first serial item past room good stored =
     let rest = without_serials removed (entries_after_use x item.event used st.entries) in
     let here : stored_response_by_answer x item.event serial ≡ Some m.made = ap (λ xs. stored_response_by_answer (find_exchange (exchange_id_of_event item.event) xs) item.event serial) p.exchanges_are ∙ m.is in
     let after : entries_after_event (bounds_of st.table st.limit) st.entries x item.event item.outcome ≡ cut_to_bounds (bounds_of table start.limit) (m.made ∷ rest) =
-    ap (λ gone. entries_after_expiring item.event gone (evicted_if_stored_or_used (bounds_of st.table st.limit) (serial_stored_by_outcome item.outcome) used (entries_after_storing x item.event (serial_stored_by_outcome item.outcome) removed (entries_after_use x item.event used st.entries)))) (stores_expires table start first serial item past good stored)
-    ∙ ap (λ o. evicted_if_stored_or_used (bounds_of st.table st.limit) o used (entries_after_storing x item.event o removed (entries_after_use x item.event used st.entries))) stored
+    ap (λ gone. entries_after_expiring item.event gone (cut_to_bounds_if_stored_or_used (bounds_of st.table st.limit) (serial_stored_by_outcome item.outcome) used (entries_after_removal_and_storing x item.event (serial_stored_by_outcome item.outcome) removed (entries_after_use x item.event used st.entries)))) (stores_expires table start first serial item past good stored)
+    ∙ ap (λ o. cut_to_bounds_if_stored_or_used (bounds_of st.table st.limit) o used (entries_after_removal_and_storing x item.event o removed (entries_after_use x item.event used st.entries))) stored
     ∙ ap (λ (b : StoreBounds). cut_to_bounds b (entries_with_first_if_any (stored_response_by_answer x item.event serial) rest)) bounds_are
     ∙ ap (λ (o : Option Stored). cut_to_bounds (bounds_of table start.limit) (entries_with_first_if_any o rest)) here
     in

@@ -15,14 +15,14 @@ use Rattle.proxy_core.specs.Outcomes.{find_exchange, exchange_id_of_event, fault
 use Rattle.hx_allow.specs.Matching.{policy_of}
 use Rattle.proxy_core.specs.Allowing.{verdict_of_asked}
 use Rattle.hx_reuse.specs.Rules.{decision_of}
-use Rattle.proxy_core.specs.Validating.{condition_about_serial}
+use Rattle.proxy_core.specs.Validating.{condition_to_revalidate_serial}
 use Rattle.proxy_core.specs.Scopes.{Scope}
-use Rattle.proxy_core.specs.State.{overtaken_exchange, released_exchange, exchanges_after_end, exchanges_after_purge, scope_purged, exchanges_after_close, forwarded_exchange, waiting_exchange, line_of_verdict, rule_of_decision, serial_named_by_decision, exchange_forwarded_again, exchanges_after_wake, scope_invalidated_by_response, open_exchanges_after, overdue_exchange}
+use Rattle.proxy_core.specs.State.{exchange_overtaken_if_in_scope, exchange_released_from_leader, exchanges_after_exchange_end, exchanges_overtaken_in_scope, scope_purged, exchanges_after_end_and_release, forwarded_exchange, exchange_begun_waiting, line_of_verdict, rule_of_decision, serial_named_by_rule_of_decision, exchange_after_second_forward, exchanges_after_wake, target_invalidated_by_response, open_exchanges_after_event, exchange_after_wait_timeout}
 use Rattle.proxy_core.specs.Starts.{StoreAtStart}
-use Rattle.proxy_core.specs.Traces.{Item, initial_state, state_after_trace, IsGood}
-use Rattle.proxy_core.specs.Promises.{is_arrival_event, NoRequestArrives}
+use Rattle.proxy_core.specs.Traces.{Item, initial_state, state_after_trace, TraceIsGood}
+use Rattle.proxy_core.specs.Promises.{is_arrival_event, NoRequestOfIdArrives}
 use Rattle.proxy_core.specs.Carrying.{IdArrivesBeforeOtherId, IdsAreInOrderOfArrival, ids_of_exchanges, ExchangesAreOpenInOrderOfArrival}
-use Rattle.proxy_core.specs.LeadingOn.{next_leader, after_abandon, exchanges_after_abandon}
+use Rattle.proxy_core.specs.LeadingOn.{next_leader, waiter_after_abandon, exchanges_after_abandon}
 use Rattle.proxy_core.proofs.ExchangeLists.{gone_out-id, sent_out-id, release-id, led_on-id, overtake-id, overdue-id}
 use Rattle.proxy_core.proofs.Moves.{and_none}
 use Rattle.proxy_core.proofs.HeldLaw.{good_plain, exchanges_are_open}
@@ -47,24 +47,24 @@ ids-left id (x ∷ xs) = by_id (eqb x.id id) (ids-left id xs)
     by_id true rest = rest
     by_id false rest = ap (λ ns. x.id ∷ ns) rest
 
-ids-closed : (id : ℕ) (xs : List Exchange) → ids_of_exchanges (exchanges_after_close id xs) ≡ but id (ids_of_exchanges xs)
-ids-closed id xs = ids-map (released_exchange id) (release-id id) (left_by id xs) ∙ ids-left id xs
+ids-closed : (id : ℕ) (xs : List Exchange) → ids_of_exchanges (exchanges_after_end_and_release id xs) ≡ but id (ids_of_exchanges xs)
+ids-closed id xs = ids-map (exchange_released_from_leader id) (release-id id) (left_by id xs) ∙ ids-left id xs
 
 ids-abandoned : (table : Table) (id : ℕ) (xs : List Exchange) → ids_of_exchanges (exchanges_after_abandon table id xs) ≡ but id (ids_of_exchanges xs)
-ids-abandoned table id xs = ids-map (after_abandon table (next_leader table id xs) id) (led_on-id table (next_leader table id xs) id) (left_by id xs) ∙ ids-left id xs
+ids-abandoned table id xs = ids-map (waiter_after_abandon table (next_leader table id xs) id) (led_on-id table (next_leader table id xs) id) (left_by id xs) ∙ ids-left id xs
 
-ids-purged : (key : Option Scope) (xs : List Exchange) → ids_of_exchanges (exchanges_after_purge key xs) ≡ ids_of_exchanges xs
+ids-purged : (key : Option Scope) (xs : List Exchange) → ids_of_exchanges (exchanges_overtaken_in_scope key xs) ≡ ids_of_exchanges xs
 ids-purged None xs = refl
-ids-purged (Some key) xs = ids-map (overtaken_exchange key) (overtake-id key) xs
+ids-purged (Some key) xs = ids-map (exchange_overtaken_if_in_scope key) (overtake-id key) xs
 
-ids-left_open : (key : Option Scope) (id : ℕ) (xs : List Exchange) → ids_of_exchanges (exchanges_after_end key id xs) ≡ but id (ids_of_exchanges xs)
+ids-left_open : (key : Option Scope) (id : ℕ) (xs : List Exchange) → ids_of_exchanges (exchanges_after_exchange_end key id xs) ≡ but id (ids_of_exchanges xs)
 ids-left_open None id xs = ids-closed id xs
-ids-left_open (Some key) id xs = ids-map (overtaken_exchange key) (overtake-id key) (exchanges_after_close id xs) ∙ ids-closed id xs
+ids-left_open (Some key) id xs = ids-map (exchange_overtaken_if_in_scope key) (overtake-id key) (exchanges_after_end_and_release id xs) ∙ ids-closed id xs
 
 ids-woken : (table : Table) (es : List Stored) (id now : ℕ) (w : Option Exchange) (xs : List Exchange) → ids_of_exchanges (exchanges_after_wake table es id now w xs) ≡ ids_of_exchanges xs
 ids-woken table es id now None xs = refl
 ids-woken table es id now (Some x) xs =
-    ids-map _ (sent_out-id id now (rule_of_decision (decision_of (policy_of table.lines x.line) es x.asked now)) (serial_named_by_decision (decision_of (policy_of table.lines x.line) es x.asked now)) (condition_about_serial es (serial_named_by_decision (decision_of (policy_of table.lines x.line) es x.asked now)))) xs
+    ids-map _ (sent_out-id id now (rule_of_decision (decision_of (policy_of table.lines x.line) es x.asked now)) (serial_named_by_rule_of_decision (decision_of (policy_of table.lines x.line) es x.asked now)) (condition_to_revalidate_serial es (serial_named_by_rule_of_decision (decision_of (policy_of table.lines x.line) es x.asked now)))) xs
 
 ids-push : (xs : List Exchange) (x : Exchange) → ids_of_exchanges (xs ++ x ∷ []) ≡ ids_of_exchanges xs ++ x.id ∷ []
 ids-push [] x = refl
@@ -79,7 +79,7 @@ record HasArrived (past : List Item) (id : ℕ) : Type 0 where
   past_is : past ≡ since ++ arrival ∷ before
   arrives : is_arrival_event arrival.event ≡ true
   id_is : exchange_id_of_event arrival.event ≡ id
-  not_judged_since : NoRequestArrives id since
+  not_judged_since : NoRequestOfIdArrives id since
 
 -- the item is no arrival of the id
 abbrev Apart : Item → ℕ → Type 0
@@ -223,39 +223,39 @@ same_ids : {past : List Item} {a b : List ℕ} → a ≡ b → InOrder b past �
 same_ids {past} {a} {b} e h = subst (λ ids. InOrder ids past) (sym e) h
 
 in_order_step : (table : Table) (es : List Stored) (xs : List Exchange) (past : List Item) (event : Event) (o : Outcome) → fault_at_exchange (find_exchange (exchange_id_of_event event) xs) event ≡ None → InOrder (ids_of_exchanges xs) past →
-    InOrder (ids_of_exchanges (open_exchanges_after table es xs event o)) (record { event = event; outcome = o } ∷ past)
+    InOrder (ids_of_exchanges (open_exchanges_after_event table es xs event o)) (record { event = event; outcome = o } ∷ past)
 in_order_step table es xs past (Arrive now id asked) o free h = by_outcome o (was_free (find_exchange id xs) refl free)
   where
     was_free : (w : Option Exchange) → find_exchange id xs ≡ w → fault_at_exchange w (Arrive now id asked) ≡ None → find_exchange id xs ≡ None
     was_free None e f = e
     was_free (Some x) e f = absurd (cc)
 
-    by_outcome : (o : Outcome) → find_exchange id xs ≡ None → InOrder (ids_of_exchanges (open_exchanges_after table es xs (Arrive now id asked) o)) (record { event = Arrive now id asked; outcome = o } ∷ past)
+    by_outcome : (o : Outcome) → find_exchange id xs ≡ None → InOrder (ids_of_exchanges (open_exchanges_after_event table es xs (Arrive now id asked) o)) (record { event = Arrive now id asked; outcome = o } ∷ past)
     by_outcome (Forward line bytes) f =
         let i : Item = record { event = Arrive now id asked; outcome = Forward line bytes } in
         same_ids (ids-push xs (forwarded_exchange table es now id asked line)) (with_one i past (ids_of_exchanges xs) refl (new_apart now id asked (Forward line bytes) xs f) h)
     by_outcome (Waits leader) f =
         let i : Item = record { event = Arrive now id asked; outcome = Waits leader } in
-        same_ids (ids-push xs (waiting_exchange table es now id asked (line_of_verdict (verdict_of_asked table asked)) leader)) (with_one i past (ids_of_exchanges xs) refl (new_apart now id asked (Waits leader) xs f) h)
+        same_ids (ids-push xs (exchange_begun_waiting table es now id asked (line_of_verdict (verdict_of_asked table asked)) leader)) (with_one i past (ids_of_exchanges xs) refl (new_apart now id asked (Waits leader) xs f) h)
     by_outcome (Reply r) f =
         same_ids (ids-purged (scope_purged asked (Reply r)) xs) (further (record { event = Arrive now id asked; outcome = Reply r }) past (ids_of_exchanges xs) (new_apart now id asked (Reply r) xs f) h)
     by_outcome Ended f = further (record { event = Arrive now id asked; outcome = Ended }) past (ids_of_exchanges xs) (new_apart now id asked Ended xs f) h
     by_outcome WaitsNoMore f = further (record { event = Arrive now id asked; outcome = WaitsNoMore }) past (ids_of_exchanges xs) (new_apart now id asked WaitsNoMore xs f) h
 in_order_step table es xs past (Answer now id r) (Forward line bytes) free h =
     let i : Item = record { event = Answer now id r; outcome = Forward line bytes } in
-    same_ids (ids-map (exchange_forwarded_again id now) (gone_out-id id now) xs) (further i past (ids_of_exchanges xs) (late_apart i (ids_of_exchanges xs) refl) h)
+    same_ids (ids-map (exchange_after_second_forward id now) (gone_out-id id now) xs) (further i past (ids_of_exchanges xs) (late_apart i (ids_of_exchanges xs) refl) h)
 in_order_step table es xs past (Answer now id r) (Reply reply) free h =
     let i : Item = record { event = Answer now id r; outcome = Reply reply } in
-    same_ids (ids-left_open (scope_invalidated_by_response (find_exchange id xs) r) id xs) (without_one id (ids_of_exchanges xs) (i ∷ past) (further i past (ids_of_exchanges xs) (late_apart i (ids_of_exchanges xs) refl) h))
+    same_ids (ids-left_open (target_invalidated_by_response (find_exchange id xs) r) id xs) (without_one id (ids_of_exchanges xs) (i ∷ past) (further i past (ids_of_exchanges xs) (late_apart i (ids_of_exchanges xs) refl) h))
 in_order_step table es xs past (Answer now id r) (Waits leader) free h =
     let i : Item = record { event = Answer now id r; outcome = Waits leader } in
-    same_ids (ids-left_open (scope_invalidated_by_response (find_exchange id xs) r) id xs) (without_one id (ids_of_exchanges xs) (i ∷ past) (further i past (ids_of_exchanges xs) (late_apart i (ids_of_exchanges xs) refl) h))
+    same_ids (ids-left_open (target_invalidated_by_response (find_exchange id xs) r) id xs) (without_one id (ids_of_exchanges xs) (i ∷ past) (further i past (ids_of_exchanges xs) (late_apart i (ids_of_exchanges xs) refl) h))
 in_order_step table es xs past (Answer now id r) Ended free h =
     let i : Item = record { event = Answer now id r; outcome = Ended } in
-    same_ids (ids-left_open (scope_invalidated_by_response (find_exchange id xs) r) id xs) (without_one id (ids_of_exchanges xs) (i ∷ past) (further i past (ids_of_exchanges xs) (late_apart i (ids_of_exchanges xs) refl) h))
+    same_ids (ids-left_open (target_invalidated_by_response (find_exchange id xs) r) id xs) (without_one id (ids_of_exchanges xs) (i ∷ past) (further i past (ids_of_exchanges xs) (late_apart i (ids_of_exchanges xs) refl) h))
 in_order_step table es xs past (Answer now id r) WaitsNoMore free h =
     let i : Item = record { event = Answer now id r; outcome = WaitsNoMore } in
-    same_ids (ids-left_open (scope_invalidated_by_response (find_exchange id xs) r) id xs) (without_one id (ids_of_exchanges xs) (i ∷ past) (further i past (ids_of_exchanges xs) (late_apart i (ids_of_exchanges xs) refl) h))
+    same_ids (ids-left_open (target_invalidated_by_response (find_exchange id xs) r) id xs) (without_one id (ids_of_exchanges xs) (i ∷ past) (further i past (ids_of_exchanges xs) (late_apart i (ids_of_exchanges xs) refl) h))
 in_order_step table es xs past (Fail now id kind) o free h =
     let i : Item = record { event = Fail now id kind; outcome = o } in
     same_ids (ids-closed id xs) (without_one id (ids_of_exchanges xs) (i ∷ past) (further i past (ids_of_exchanges xs) (late_apart i (ids_of_exchanges xs) refl) h))
@@ -276,12 +276,12 @@ in_order_step table es xs past (Wake now id) WaitsNoMore free h =
     same_ids (ids-closed id xs) (without_one id (ids_of_exchanges xs) (i ∷ past) (further i past (ids_of_exchanges xs) (late_apart i (ids_of_exchanges xs) refl) h))
 in_order_step table es xs past (Overdue id) o free h =
     let i : Item = record { event = Overdue id; outcome = o } in
-    same_ids (ids-map (overdue_exchange id) (overdue-id id) xs) (further i past (ids_of_exchanges xs) (late_apart i (ids_of_exchanges xs) refl) h)
+    same_ids (ids-map (exchange_after_wait_timeout id) (overdue-id id) xs) (further i past (ids_of_exchanges xs) (late_apart i (ids_of_exchanges xs) refl) h)
 in_order_step table es xs past (Abandon id) o free h =
     let i : Item = record { event = Abandon id; outcome = o } in
     same_ids (ids-abandoned table id xs) (without_one id (ids_of_exchanges xs) (i ∷ past) (further i past (ids_of_exchanges xs) (late_apart i (ids_of_exchanges xs) refl) h))
 
-in_order_all : (table : Table) (start : StoreAtStart) (first : ℕ) (past : List Item) → IsGood (initial_state table start first) past → InOrder (ids_of_exchanges (state_after_trace (initial_state table start first) past).exchanges) past
+in_order_all : (table : Table) (start : StoreAtStart) (first : ℕ) (past : List Item) → TraceIsGood (initial_state table start first) past → InOrder (ids_of_exchanges (state_after_trace (initial_state table start first) past).exchanges) past
 in_order_all table start first [] g = record { arrived = tt; order = tt }
 in_order_all table start first (i ∷ past) g =
     let s = state_after_trace (initial_state table start first) past in

@@ -10,7 +10,7 @@ use Rattle.hx_hop.specs.declared.request_view.Asked.{Asked}
 use Rattle.hx_store.specs.Stored.{Stored}
 use Rattle.hx_reuse.specs.Chosen.{entries_of_key, chosen_of}
 use Rattle.hx_reuse.specs.RuleNames.{reuse_rule_number}
-use Rattle.hx_reuse.specs.Rules.{reuse_rule_applies, situation_of_request, is_fresh_situation, is_some_and, is_rule_on_chosen, decision_of}
+use Rattle.hx_reuse.specs.Rules.{reuse_rule_applies, situation_of_request, situation_is_fresh, is_some_and, is_rule_on_chosen, decision_of}
 use Rattle.hx_reuse.specs.ChosenAndNamed.{IsLeastReuseRule}
 use Rattle.hx_reuse.specs.declared.rule.ReuseRule.{ReuseRule}
 use Rattle.hx_reuse.specs.declared.rule.ReuseRule.TheVariants as rules
@@ -83,12 +83,12 @@ module _ (policy : Policy) (held later : List Stored) (asked : Asked) (now momen
   looks rules.UriMiss least = absurd (false≢true (sym held_for_it ∙ least.rule_applies))
   looks rules.VaryMiss least = refl
   looks rules.ResponseNoCache least = refl
-  looks rules.RequestNoCache least = absurd (no_cache (λ e. is_fresh_situation (situation_of_request policy e asked moment)) (chosen_of later asked) least.rule_applies)
+  looks rules.RequestNoCache least = absurd (no_cache (λ e. situation_is_fresh (situation_of_request policy e asked moment)) (chosen_of later asked) least.rule_applies)
   looks rules.AboveMaxAge least = refl
   looks rules.BelowMinFresh least = refl
   looks rules.MustRevalidate least = refl
   looks rules.NoLifetime least = refl
-  looks rules.StaleNoCache least = absurd (no_cache (λ e. not (is_fresh_situation (situation_of_request policy e asked moment))) (chosen_of later asked) least.rule_applies)
+  looks rules.StaleNoCache least = absurd (no_cache (λ e. not (situation_is_fresh (situation_of_request policy e asked moment))) (chosen_of later asked) least.rule_applies)
   looks rules.NoMaxStale least = refl
   looks rules.PastMaxStale least = refl
   looks rules.StaleMaxAge least = refl

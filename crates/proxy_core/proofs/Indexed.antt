@@ -7,7 +7,7 @@ use Rattle.std.specs.Map.{lookup, remove_entry, set_value}
 use Rattle.std.proofs.lemmas.Bool.{cases_Bool, eqb-true}
 use Rattle.std.proofs.lemmas.Bool.Decides.{nat_tests}
 use Rattle.proxy_core.specs.declared.open.exchange.Exchange.{Exchange}
-use Rattle.proxy_core.specs.Arrivals.{HaveDistinctArrivalsAndIds, SelectedArrivalsPassTest, is_arrival_of_selected, IsExactIndexOfSelected, map_exchanges}
+use Rattle.proxy_core.specs.Arrivals.{HaveDistinctArrivalsAndIds, SelectedArrivalsPassTest, is_arrival_of_selected, IsExactIndexOfSelected, exchanges_each_changed}
 use Rattle.proxy_core.proofs.ExchangeLists.{cond_none, nones, swap}
 
 abbrev Numbered : Type 0
@@ -79,7 +79,7 @@ lookup-set m n x y (e ∷ es) h = elim (cases_Bool (at n e.0)) [
     twice true o = refl
     twice false o = refl
 
-pub lookup-on_all : (f : Exchange → Exchange) (m : ℕ) (es : Numbered) → lookup (at m) (map_exchanges f es) ≡ option_map f (lookup (at m) es)
+pub lookup-on_all : (f : Exchange → Exchange) (m : ℕ) (es : Numbered) → lookup (at m) (exchanges_each_changed f es) ≡ option_map f (lookup (at m) es)
 lookup-on_all f m [] = refl
 lookup-on_all f m (e ∷ es) =
     ap (λ (o : Option Exchange). cond (at m e.0) (Some (f e.1)) o) (lookup-on_all f m es)
@@ -175,7 +175,7 @@ indexes-written which n x y old new es there beside here h m = elim (cases_Bool 
 ]
 
 pub indexes-on_all : (which : Exchange → Bool) (f : Exchange → Exchange) (g : Bool → Bool) (old new : ℕ → Bool) (es : Numbered) → g false ≡ false →
-    ((x : Exchange) → which (f x) ≡ g (which x)) → ((m : ℕ) → new m ≡ g (old m)) → IsExactIndexOfSelected which old es → IsExactIndexOfSelected which new (map_exchanges f es)
+    ((x : Exchange) → which (f x) ≡ g (which x)) → ((m : ℕ) → new m ≡ g (old m)) → IsExactIndexOfSelected which old es → IsExactIndexOfSelected which new (exchanges_each_changed f es)
 indexes-on_all which f g old new es z c k h m =
     k m ∙ ap g (h m)
     ∙ (elim (lookup (at m) es) as (λ o. g (is_one which o) ≡ is_one which (option_map f o)) [ None ↦ z | Some x ↦ sym (c x) ])

@@ -7,9 +7,9 @@ use Rattle.std.specs.BTreeMap.{get, is_at}
 use Rattle.std.specs.BTreeSet.{BTreeSet, contains}
 use Rattle.std.proofs.lemmas.Bool.{cases_Bool, false≢true, eqb-true}
 use Rattle.std.proofs.lemmas.Bool.Decides.{nat_tests}
-use Rattle.proxy_core.specs.declared.open.key_index.KeyIndex.{KeyIndex}
+use Rattle.proxy_core.specs.declared.open.key_index.ArrivalKeyIndex.{ArrivalKeyIndex}
 use Rattle.proxy_core.specs.Waiters.{set_contains, SetIsNotEmpty}
-use Rattle.proxy_core.specs.ByKey.{is_in_key_index, KeyIndexHasNoEmptySet, OtherKeysHaveNoEmptySet}
+use Rattle.proxy_core.specs.ByKey.{arrival_is_in_key_index, KeyIndexHasNoEmptySet, OtherKeysHaveNoEmptySet}
 use Rattle.hx_target.specs.declared.keys.Key.{Key}
 use Rattle.hx_target.specs.Keys.{same_key}
 use Rattle.hx_target.specs.KeyOrder.{key_cmp, key_cmp_ties_are_same}
@@ -33,10 +33,10 @@ one_key a b h =
     λ i. record { host = host i; port = port i; path_query = path_query i }
 
 -- a map that has w at a key, and else what it had
-abbrev Has : Key → Option (BTreeSet ℕ) → KeyIndex → KeyIndex → Type 0
+abbrev Has : Key → Option (BTreeSet ℕ) → ArrivalKeyIndex → ArrivalKeyIndex → Type 0
 Has key w old new = (q : Key) → get key_cmp new.arrivals q ≡ cond (is_at (key_cmp key) q) w (get key_cmp old.arrivals q)
 
-pub written : (key : Key) (old new : KeyIndex) (w : Option (BTreeSet ℕ)) → Has key w old new → (q : Key) (m : ℕ) → is_in_key_index new q m ≡ cond (same_key key q) (set_contains w m) (is_in_key_index old q m)
+pub written : (key : Key) (old new : ArrivalKeyIndex) (w : Option (BTreeSet ℕ)) → Has key w old new → (q : Key) (m : ℕ) → arrival_is_in_key_index new q m ≡ cond (same_key key q) (set_contains w m) (arrival_is_in_key_index old q m)
 written key old new w h q m =
     let g = get key_cmp old.arrivals q in
     ap (λ o. set_contains o m) (h q)
@@ -44,31 +44,31 @@ written key old new w h q m =
     ∙ (elim (same_key key q) as (λ b. set_contains (cond b w g) m ≡ cond b (set_contains w m) (set_contains g m)) [ true ↦ refl | false ↦ refl ])
 
 -- what stands at the key is what was there, but at one arrival
-pub entered : (key : Key) (n : ℕ) (old new : KeyIndex) (f : ℕ → Bool) → ((q : Key) (m : ℕ) → is_in_key_index new q m ≡ cond (same_key key q) (f m) (is_in_key_index old q m)) →
-    ((m : ℕ) → f m ≡ (eqb n m || is_in_key_index old key m)) → (q : Key) (m : ℕ) → is_in_key_index new q m ≡ ((same_key key q && eqb n m) || is_in_key_index old q m)
+pub entered : (key : Key) (n : ℕ) (old new : ArrivalKeyIndex) (f : ℕ → Bool) → ((q : Key) (m : ℕ) → arrival_is_in_key_index new q m ≡ cond (same_key key q) (f m) (arrival_is_in_key_index old q m)) →
+    ((m : ℕ) → f m ≡ (eqb n m || arrival_is_in_key_index old key m)) → (q : Key) (m : ℕ) → arrival_is_in_key_index new q m ≡ ((same_key key q && eqb n m) || arrival_is_in_key_index old q m)
 entered key n old new f h k q m = elim (cases_Bool (same_key key q)) [
   | inl t ↦ (
-      h q m ∙ ap (λ b. cond b (f m) (is_in_key_index old q m)) t ∙ k m ∙ ap (λ i. eqb n m || is_in_key_index old i m) (one_key key q t)
-      ∙ sym (ap (λ b. (b && eqb n m) || is_in_key_index old q m) t)
+      h q m ∙ ap (λ b. cond b (f m) (arrival_is_in_key_index old q m)) t ∙ k m ∙ ap (λ i. eqb n m || arrival_is_in_key_index old i m) (one_key key q t)
+      ∙ sym (ap (λ b. (b && eqb n m) || arrival_is_in_key_index old q m) t)
       )
-  | inr o ↦ h q m ∙ ap (λ b. cond b (f m) (is_in_key_index old q m)) o ∙ sym (ap (λ b. (b && eqb n m) || is_in_key_index old q m) o)
+  | inr o ↦ h q m ∙ ap (λ b. cond b (f m) (arrival_is_in_key_index old q m)) o ∙ sym (ap (λ b. (b && eqb n m) || arrival_is_in_key_index old q m) o)
 ]
 
-pub left : (key : Key) (n : ℕ) (old new : KeyIndex) (f : ℕ → Bool) → ((q : Key) (m : ℕ) → is_in_key_index new q m ≡ cond (same_key key q) (f m) (is_in_key_index old q m)) →
-    ((m : ℕ) → f m ≡ (not (eqb n m) && is_in_key_index old key m)) → (q : Key) (m : ℕ) → is_in_key_index new q m ≡ (not (same_key key q && eqb n m) && is_in_key_index old q m)
+pub left : (key : Key) (n : ℕ) (old new : ArrivalKeyIndex) (f : ℕ → Bool) → ((q : Key) (m : ℕ) → arrival_is_in_key_index new q m ≡ cond (same_key key q) (f m) (arrival_is_in_key_index old q m)) →
+    ((m : ℕ) → f m ≡ (not (eqb n m) && arrival_is_in_key_index old key m)) → (q : Key) (m : ℕ) → arrival_is_in_key_index new q m ≡ (not (same_key key q && eqb n m) && arrival_is_in_key_index old q m)
 left key n old new f h k q m = elim (cases_Bool (same_key key q)) [
   | inl t ↦ (
-      h q m ∙ ap (λ b. cond b (f m) (is_in_key_index old q m)) t ∙ k m ∙ ap (λ i. not (eqb n m) && is_in_key_index old i m) (one_key key q t)
-      ∙ sym (ap (λ b. not (b && eqb n m) && is_in_key_index old q m) t)
+      h q m ∙ ap (λ b. cond b (f m) (arrival_is_in_key_index old q m)) t ∙ k m ∙ ap (λ i. not (eqb n m) && arrival_is_in_key_index old i m) (one_key key q t)
+      ∙ sym (ap (λ b. not (b && eqb n m) && arrival_is_in_key_index old q m) t)
       )
-  | inr o ↦ h q m ∙ ap (λ b. cond b (f m) (is_in_key_index old q m)) o ∙ sym (ap (λ b. not (b && eqb n m) && is_in_key_index old q m) o)
+  | inr o ↦ h q m ∙ ap (λ b. cond b (f m) (arrival_is_in_key_index old q m)) o ∙ sym (ap (λ b. not (b && eqb n m) && arrival_is_in_key_index old q m) o)
 ]
 
-pub same : (key : Key) (old new : KeyIndex) (f : ℕ → Bool) → ((q : Key) (m : ℕ) → is_in_key_index new q m ≡ cond (same_key key q) (f m) (is_in_key_index old q m)) →
-    ((m : ℕ) → f m ≡ is_in_key_index old key m) → (q : Key) (m : ℕ) → is_in_key_index new q m ≡ is_in_key_index old q m
+pub same : (key : Key) (old new : ArrivalKeyIndex) (f : ℕ → Bool) → ((q : Key) (m : ℕ) → arrival_is_in_key_index new q m ≡ cond (same_key key q) (f m) (arrival_is_in_key_index old q m)) →
+    ((m : ℕ) → f m ≡ arrival_is_in_key_index old key m) → (q : Key) (m : ℕ) → arrival_is_in_key_index new q m ≡ arrival_is_in_key_index old q m
 same key old new f h k q m = elim (cases_Bool (same_key key q)) [
-  | inl t ↦ h q m ∙ ap (λ b. cond b (f m) (is_in_key_index old q m)) t ∙ k m ∙ ap (λ i. is_in_key_index old i m) (one_key key q t)
-  | inr o ↦ h q m ∙ ap (λ b. cond b (f m) (is_in_key_index old q m)) o
+  | inl t ↦ h q m ∙ ap (λ b. cond b (f m) (arrival_is_in_key_index old q m)) t ∙ k m ∙ ap (λ i. arrival_is_in_key_index old i m) (one_key key q t)
+  | inr o ↦ h q m ∙ ap (λ b. cond b (f m) (arrival_is_in_key_index old q m)) o
 ]
 
 -- what a set has once a number was put in, and once one was taken out
@@ -84,7 +84,7 @@ entries_without_serials n old new h m = h m ∙ ap (λ b. cond b false (contains
 
 -- ---- no key stands there for nothing
 
-pub trim-written : (key : Key) (old new : KeyIndex) (w : Option (BTreeSet ℕ)) → Has key w old new → ForSome w SetIsNotEmpty → KeyIndexHasNoEmptySet old → KeyIndexHasNoEmptySet new
+pub trim-written : (key : Key) (old new : ArrivalKeyIndex) (w : Option (BTreeSet ℕ)) → Has key w old new → ForSome w SetIsNotEmpty → KeyIndexHasNoEmptySet old → KeyIndexHasNoEmptySet new
 trim-written key old new w h n o q set e k =
     let g = get key_cmp old.arrivals q in
     elim (cases_Bool (is_at (key_cmp key) q)) [
@@ -92,12 +92,12 @@ trim-written key old new w h n o q set e k =
       | inr f ↦ o q set (sym (h q ∙ ap (λ b. cond b w g) f) ∙ e) k
     ]
 
-pub trim-beside : (key : Key) (old new : KeyIndex) (w : Option (BTreeSet ℕ)) → Has key w old new → KeyIndexHasNoEmptySet old → OtherKeysHaveNoEmptySet key new
+pub trim-beside : (key : Key) (old new : ArrivalKeyIndex) (w : Option (BTreeSet ℕ)) → Has key w old new → KeyIndexHasNoEmptySet old → OtherKeysHaveNoEmptySet key new
 trim-beside key old new w h o q f set e k =
     let g = get key_cmp old.arrivals q in
     o q set (sym (h q ∙ ap (λ b. cond b w g) (sym (key_cmp_ties_are_same key q) ∙ f)) ∙ e) k
 
-pub trim-removed : (key : Key) (mid new : KeyIndex) → Has key None mid new → OtherKeysHaveNoEmptySet key mid → KeyIndexHasNoEmptySet new
+pub trim-removed : (key : Key) (mid new : ArrivalKeyIndex) → Has key None mid new → OtherKeysHaveNoEmptySet key mid → KeyIndexHasNoEmptySet new
 trim-removed key mid new h b q set e k =
     let g = get key_cmp mid.arrivals q in
     elim (cases_Bool (is_at (key_cmp key) q)) [
@@ -108,5 +108,5 @@ trim-removed key mid new h b q set e k =
       | inr f ↦ b q (key_cmp_ties_are_same key q ∙ f) set (sym (h q ∙ ap (λ b. cond b None g) f) ∙ e) k
     ]
 
-pub trim-same : (old new : KeyIndex) → new.arrivals.entries ≡ old.arrivals.entries → KeyIndexHasNoEmptySet old → KeyIndexHasNoEmptySet new
+pub trim-same : (old new : ArrivalKeyIndex) → new.arrivals.entries ≡ old.arrivals.entries → KeyIndexHasNoEmptySet old → KeyIndexHasNoEmptySet new
 trim-same old new s o q set e k = o q set (ap (lookup (is_at (key_cmp q))) (sym s) ∙ e) k

@@ -11,8 +11,8 @@ use Rattle.proxy_core.specs.declared.open.exchange.Exchange.{Exchange}
 use Rattle.proxy_core.specs.Leading.{is_leader_for_request, leader, leader_id_if_awaited, NoExchangeIsLeaderForRequest, IsFirstLeader}
 use Rattle.proxy_core.specs.declared.open.awaited.Awaited.{Awaited}
 use Rattle.hx_reuse.specs.ChosenAndNamed.{IsLeastReuseRule}
-use Rattle.proxy_core.specs.Awaiting.{RequestMayAwaitAnother, awaited_by_request, leader_of_request}
-use Rattle.proxy_core.specs.Sending.{NoLeaderIsOpen}
+use Rattle.proxy_core.specs.Awaiting.{RequestMayAwaitAnother, response_awaited_by_request, leader_of_request}
+use Rattle.proxy_core.specs.Sending.{NoLeaderForRequestIsOpen}
 use Rattle.proxy_core.proofs.Awaits.{awaited_by_words, awaited_in_words}
 
 pub first_is : (policy : Policy) (awaited : Awaited) (asked : Asked) (before : List Exchange) (x : Exchange) (behind : List Exchange) → is_leader_for_request policy awaited asked x ≡ true → NoExchangeIsLeaderForRequest policy awaited asked before → leader policy awaited asked (before ++ x ∷ behind) ≡ Some x.id
@@ -54,14 +54,14 @@ first_leads policy awaited asked xs l first =
     ap (leader policy awaited asked) first.open_exchanges_are ∙ first_is policy awaited asked first.before first.x first.behind first.it_leads first.none_before ∙ ap (λ n. Some n) first.id
 
 module _ (policy : Policy) (es : List Stored) (distinct : SerialsAreDistinct (serials es)) (xs : List Exchange) (asked : Asked) (now : ℕ) (rule : ReuseRule) (least : IsLeastReuseRule policy es asked now rule) where
-  pub nobody_leads : leader_of_request policy es xs asked rule ≡ None → NoLeaderIsOpen policy es xs asked now
+  pub nobody_leads : leader_of_request policy es xs asked rule ≡ None → NoLeaderForRequestIsOpen policy es xs asked now
   nobody_leads h awaited w =
       none_leads policy awaited asked xs (sym (ap (leader_id_if_awaited policy asked xs) (awaited_by_words policy es asked now distinct rule awaited least w)) ∙ h)
 
-  pub leads_for_none : NoLeaderIsOpen policy es xs asked now → leader_of_request policy es xs asked rule ≡ None
-  leads_for_none nobody = by_awaited (awaited_by_request policy es asked rule) refl
+  pub leads_for_none : NoLeaderForRequestIsOpen policy es xs asked now → leader_of_request policy es xs asked rule ≡ None
+  leads_for_none nobody = by_awaited (response_awaited_by_request policy es asked rule) refl
     where
-      by_awaited : (o : Option Awaited) → awaited_by_request policy es asked rule ≡ o → leader_id_if_awaited policy asked xs o ≡ None
+      by_awaited : (o : Option Awaited) → response_awaited_by_request policy es asked rule ≡ o → leader_id_if_awaited policy asked xs o ≡ None
       by_awaited None k = refl
       by_awaited (Some awaited) k = no_leader policy awaited asked xs (nobody awaited (awaited_in_words policy es asked now distinct rule awaited least k))
 
@@ -74,8 +74,8 @@ module _ (policy : Policy) (es : List Stored) (distinct : SerialsAreDistinct (se
 
   -- where a request waits, it could be sent something, and the first leads
   pub is_led : (l : ℕ) → leader_of_request policy es xs asked rule ≡ Some l → (awaited : Awaited) × RequestMayAwaitAnother policy es asked now awaited × (leader policy awaited asked xs ≡ Some l)
-  is_led l h = by_awaited (awaited_by_request policy es asked rule) refl h
+  is_led l h = by_awaited (response_awaited_by_request policy es asked rule) refl h
     where
-      by_awaited : (o : Option Awaited) → awaited_by_request policy es asked rule ≡ o → leader_id_if_awaited policy asked xs o ≡ Some l → (awaited : Awaited) × RequestMayAwaitAnother policy es asked now awaited × (leader policy awaited asked xs ≡ Some l)
+      by_awaited : (o : Option Awaited) → response_awaited_by_request policy es asked rule ≡ o → leader_id_if_awaited policy asked xs o ≡ Some l → (awaited : Awaited) × RequestMayAwaitAnother policy es asked now awaited × (leader policy awaited asked xs ≡ Some l)
       by_awaited None k h = absurd (some_is_not l (sym h))
       by_awaited (Some awaited) k h = (awaited, awaited_in_words policy es asked now distinct rule awaited least k, h)

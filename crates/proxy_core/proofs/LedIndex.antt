@@ -13,9 +13,9 @@ use Rattle.proxy_core.specs.declared.open.stage.Stage.{Stage}
 use Rattle.proxy_core.specs.declared.open.stage.Stage.TheVariants.{Forwarded, Waiting, Released}
 use Rattle.proxy_core.specs.declared.open.wait_index.WaitIndex.{WaitIndex}
 use Rattle.proxy_core.specs.Leading.{waits_for}
-use Rattle.proxy_core.specs.LeadingOn.{follows_next_leader, after_abandon}
-use Rattle.proxy_core.specs.Arrivals.{map_exchanges, is_arrival_of_selected}
-use Rattle.proxy_core.specs.Waiters.{is_in_wait_index, WaitersAreEntered, WaitersAreRemoved}
+use Rattle.proxy_core.specs.LeadingOn.{follows_next_leader, waiter_after_abandon}
+use Rattle.proxy_core.specs.Arrivals.{exchanges_each_changed, is_arrival_of_selected}
+use Rattle.proxy_core.specs.Waiters.{arrival_is_in_wait_index, WaitersAreEntered, WaitersAreRemoved}
 use Rattle.proxy_core.proofs.Indexed.{lookup-on_all}
 use Rattle.proxy_core.proofs.LedOn.{led_on-stage}
 use Rattle.proxy_core.proofs.Waiters.{AllIndexed}
@@ -30,8 +30,8 @@ abbrev is_one : (Exchange → Bool) → Option Exchange → Bool
 is_one which o = option_map_or which o false
 
 -- who is entered under another id, those that wait for this one stay
-pub still_those : (q : ℕ) (next : ℕ) (set : BTreeSet ℕ) (old mid : WaitIndex) → eqb next q ≡ false → WaitersAreEntered next set old mid → (m : ℕ) → is_in_wait_index mid q m ≡ is_in_wait_index old q m
-still_those q next set old mid apart entered m = entered q m ∙ ap (λ b. (b && contains nat_cmp set m) || is_in_wait_index old q m) apart
+pub still_those : (q : ℕ) (next : ℕ) (set : BTreeSet ℕ) (old mid : WaitIndex) → eqb next q ≡ false → WaitersAreEntered next set old mid → (m : ℕ) → arrival_is_in_wait_index mid q m ≡ arrival_is_in_wait_index old q m
+still_those q next set old mid apart entered m = entered q m ∙ ap (λ b. (b && contains nat_cmp set m) || arrival_is_in_wait_index old q m) apart
 
 -- of one that waits for an id, whether it waits for another
 other_leader : (q id : ℕ) (s : Stage) → waits_for q s ≡ true → waits_for id s ≡ eqb q id
@@ -70,18 +70,18 @@ module _ (table : Table) (next : NextLeader) (q : ℕ) (apart : eqb next.id q �
 
   pub led_waits : (o : Option Exchange) →
       (not (eqb q id) && ((eqb next.id id && (is_one (λ x. waits_for q x.stage) o && is_one (follows_next_leader table next) o)) || is_one (λ x. waits_for id x.stage) o))
-      ≡ is_one (λ x. waits_for id x.stage) (option_map (after_abandon table (Some next) q) o)
+      ≡ is_one (λ x. waits_for id x.stage) (option_map (waiter_after_abandon table (Some next) q) o)
   led_waits None = nobody (eqb q id) (eqb next.id id)
   led_waits (Some x) = led x (waits_for q x.stage) refl ∙ sym (ap (waits_for id) (led_on-stage table (Some next) q x))
 
 -- those that follow are under the next leader, and nobody is under the one that ended
 pub waiters-led_on : (table : Table) (next : NextLeader) (q : ℕ) → eqb next.id q ≡ false → (es : Numbered) (followers waiting : BTreeSet ℕ) (old mid new : WaitIndex) →
     ((n : ℕ) → contains nat_cmp followers n ≡ (contains nat_cmp waiting n && is_arrival_of_selected (follows_next_leader table next) es n)) →
-    ((n : ℕ) → contains nat_cmp waiting n ≡ is_in_wait_index old q n) → WaitersAreEntered next.id followers old mid → WaitersAreRemoved q mid new →
-    AllIndexed old es → AllIndexed new (map_exchanges (after_abandon table (Some next) q) es)
+    ((n : ℕ) → contains nat_cmp waiting n ≡ arrival_is_in_wait_index old q n) → WaitersAreEntered next.id followers old mid → WaitersAreRemoved q mid new →
+    AllIndexed old es → AllIndexed new (exchanges_each_changed (waiter_after_abandon table (Some next) q) es)
 waiters-led_on table next q apart es followers waiting old mid new f w entered out h id m =
     out id m
-    ∙ (ap (λ b. not (eqb q id) && b) (entered id m ∙ ap (λ b. (eqb next.id id && b) || is_in_wait_index old id m) (f m ∙ ap (λ b. b && is_arrival_of_selected (follows_next_leader table next) es m) (w m ∙ h q m)))
+    ∙ (ap (λ b. not (eqb q id) && b) (entered id m ∙ ap (λ b. (eqb next.id id && b) || arrival_is_in_wait_index old id m) (f m ∙ ap (λ b. b && is_arrival_of_selected (follows_next_leader table next) es m) (w m ∙ h q m)))
     ∙ (ap (λ b. not (eqb q id) && ((eqb next.id id && (is_arrival_of_selected (λ x. waits_for q x.stage) es m && is_arrival_of_selected (follows_next_leader table next) es m)) || b)) (h id m)
     ∙ (led_waits table next q apart id (lookup (at m) es)
-    ∙ sym (ap (is_one (λ x. waits_for id x.stage)) (lookup-on_all (after_abandon table (Some next) q) m es)))))
+    ∙ sym (ap (is_one (λ x. waits_for id x.stage)) (lookup-on_all (waiter_after_abandon table (Some next) q) m es)))))

@@ -15,7 +15,7 @@ use Rattle.proxy_core.specs.declared.open.as_next_leader.NextLeader.{NextLeader}
 use Rattle.proxy_core.specs.Leading.{waits_for, is_waiting, is_forwarded, has_authorization, bools_are_equal}
 use Rattle.proxy_core.specs.Outcomes.{find_exchange}
 use Rattle.proxy_core.proofs.ExchangeLists.{find-abandoned, led_on-id}
-use Rattle.proxy_core.specs.LeadingOn.{wait_is_limited, may_lead_next, as_next_leader, first_waiter_to_lead, count_waiting, most_followers, next_leader, follows_next_leader, stage_after_leader, after_abandon, exchanges_without, exchanges_after_abandon, ExchangeMayBecomeLeader, IsNextLeader, CouldBeSentAnswerOfNextLeader}
+use Rattle.proxy_core.specs.LeadingOn.{wait_is_limited, may_lead_next, as_next_leader, first_waiter_to_lead, count_waiting_for, most_followers_led_on, next_leader, follows_next_leader, stage_after_leader, waiter_after_abandon, exchanges_without, exchanges_after_abandon, ExchangeMayBecomeLeader, IsNextLeader, WaiterCouldBeSentNextLeadersAnswer}
 use Rattle.proxy_core.proofs.AskedArrivals.{KeepsItsPlace}
 use Rattle.proxy_core.proofs.Waiters.{TurnsAway}
 
@@ -34,7 +34,7 @@ behind_is table (Some next) x = elim (cases_Bool (follows_next_leader table next
     middle false b c h = absurd (false≢true h)
 
 -- the stage of one that is led on
-pub led_on-stage : (table : Table) (next : Option NextLeader) (q : ℕ) (x : Exchange) → (after_abandon table next q x).stage ≡ cond (waits_for q x.stage) (stage_after_leader table next x) x.stage
+pub led_on-stage : (table : Table) (next : Option NextLeader) (q : ℕ) (x : Exchange) → (waiter_after_abandon table next q x).stage ≡ cond (waits_for q x.stage) (stage_after_leader table next x) x.stage
 led_on-stage table next q x = elim (waits_for q x.stage) as (λ b. (cond b (record x { stage = stage_after_leader table next x }) x).stage ≡ cond b (stage_after_leader table next x) x.stage) [
   | true ↦ refl
   | false ↦ refl
@@ -54,15 +54,15 @@ turned_has_an_end table j id m xs z f n w there = elim (behind_is table next z) 
     next : Option NextLeader
     next = next_leader table j xs
 
-    is : Some (after_abandon table (next_leader table j xs) j z) ≡ Some (record z { stage = Waiting m })
+    is : Some (waiter_after_abandon table (next_leader table j xs) j z) ≡ Some (record z { stage = Waiting m })
     is =
-        sym (find-abandoned table j id xs ∙ ap (λ b. cond b None (option_map (after_abandon table (next_leader table j xs) j) (find_exchange id xs))) n
-        ∙ ap (option_map (after_abandon table (next_leader table j xs) j)) f) ∙ there
+        sym (find-abandoned table j id xs ∙ ap (λ b. cond b None (option_map (waiter_after_abandon table (next_leader table j xs) j) (find_exchange id xs))) n
+        ∙ ap (option_map (waiter_after_abandon table (next_leader table j xs) j)) f) ∙ there
 
     waits : stage_after_leader table (next_leader table j xs) z ≡ Waiting m
     waits =
         sym (led_on-stage table (next_leader table j xs) j z ∙ ap (λ b. cond b (stage_after_leader table (next_leader table j xs) z) z.stage) w)
-        ∙ ap (λ (y : Exchange). y.stage) (same_Some (after_abandon table (next_leader table j xs) j z) (record z { stage = Waiting m }) is)
+        ∙ ap (λ (y : Exchange). y.stage) (same_Some (waiter_after_abandon table (next_leader table j xs) j z) (record z { stage = Waiting m }) is)
 
 -- nobody is at the origin behind it
 pub behind-not_out : (table : Table) (next : Option NextLeader) (x : Exchange) → is_forwarded (stage_after_leader table next x) ≡ false
@@ -81,7 +81,7 @@ waits_waiting q Forwarded h = absurd (false≢true h)
 waits_waiting q (Waiting leader) h = refl
 waits_waiting q Released h = absurd (false≢true h)
 
-pub led_on-place : (table : Table) (next : Option NextLeader) (q : ℕ) → KeepsItsPlace (after_abandon table next q)
+pub led_on-place : (table : Table) (next : Option NextLeader) (q : ℕ) → KeepsItsPlace (waiter_after_abandon table next q)
 led_on-place table next q x = (
   elim (waits_for q x.stage) as (λ b. (cond b (record x { stage = stage_after_leader table next x }) x).asked ≡ x.asked) [ true ↦ refl | false ↦ refl ],
   elim (cases_Bool (waits_for q x.stage)) [
@@ -90,11 +90,11 @@ led_on-place table next q x = (
   ],
 )
 
-pub led_on-others : (table : Table) (next : Option NextLeader) (q : ℕ) (x : Exchange) → waits_for q x.stage ≡ false → after_abandon table next q x ≡ x
+pub led_on-others : (table : Table) (next : Option NextLeader) (q : ℕ) (x : Exchange) → waits_for q x.stage ≡ false → waiter_after_abandon table next q x ≡ x
 led_on-others table next q x f = ap (λ b. cond b (record x { stage = stage_after_leader table next x }) x) f
 
 -- it waits for the next leader, or for nobody
-pub led_away : (table : Table) (next : NextLeader) (q : ℕ) → eqb next.id q ≡ false → TurnsAway q (after_abandon table (Some next) q)
+pub led_away : (table : Table) (next : NextLeader) (q : ℕ) → eqb next.id q ≡ false → TurnsAway q (waiter_after_abandon table (Some next) q)
 led_away table next q apart = record {
   others = led_on-others table (Some next) q;
   no_more = λ x. ap (waits_for q) (led_on-stage table (Some next) q x) ∙ by_wait x (waits_for q x.stage) refl;
@@ -109,17 +109,17 @@ led_away table next q apart = record {
     by_wait x false w = w
 
 -- it is all the same whether the one that ends goes first
-pub without-led_on : (table : Table) (next : Option NextLeader) (q id : ℕ) (xs : List Exchange) → exchanges_without id (map (after_abandon table next q) xs) ≡ map (after_abandon table next q) (exchanges_without id xs)
+pub without-led_on : (table : Table) (next : Option NextLeader) (q id : ℕ) (xs : List Exchange) → exchanges_without id (map (waiter_after_abandon table next q) xs) ≡ map (waiter_after_abandon table next q) (exchanges_without id xs)
 without-led_on table next q id [] = refl
 without-led_on table next q id (x ∷ xs) =
-    ap (λ n. cond (not (eqb n id)) (after_abandon table next q x ∷ exchanges_without id (map (after_abandon table next q) xs)) (exchanges_without id (map (after_abandon table next q) xs))) (led_on-id table next q x)
+    ap (λ n. cond (not (eqb n id)) (waiter_after_abandon table next q x ∷ exchanges_without id (map (waiter_after_abandon table next q) xs)) (exchanges_without id (map (waiter_after_abandon table next q) xs))) (led_on-id table next q x)
     ∙ by_id (without-led_on table next q id xs) (eqb x.id id)
   where
-    by_id : exchanges_without id (map (after_abandon table next q) xs) ≡ map (after_abandon table next q) (exchanges_without id xs) → (b : Bool) →
-        cond (not b) (after_abandon table next q x ∷ exchanges_without id (map (after_abandon table next q) xs)) (exchanges_without id (map (after_abandon table next q) xs))
-        ≡ map (after_abandon table next q) (cond (not b) (x ∷ exchanges_without id xs) (exchanges_without id xs))
+    by_id : exchanges_without id (map (waiter_after_abandon table next q) xs) ≡ map (waiter_after_abandon table next q) (exchanges_without id xs) → (b : Bool) →
+        cond (not b) (waiter_after_abandon table next q x ∷ exchanges_without id (map (waiter_after_abandon table next q) xs)) (exchanges_without id (map (waiter_after_abandon table next q) xs))
+        ≡ map (waiter_after_abandon table next q) (cond (not b) (x ∷ exchanges_without id xs) (exchanges_without id xs))
     by_id rest true = rest
-    by_id rest false = ap (λ (ys : List Exchange). after_abandon table next q x ∷ ys) rest
+    by_id rest false = ap (λ (ys : List Exchange). waiter_after_abandon table next q x ∷ ys) rest
 
 -- ---- which leads on
 
@@ -228,13 +228,13 @@ first_in_words table id (y ∷ xs) next h = by_id (λ k. first_in_words table id
 -- the same where no more wait than are led on
 pub next_is : (table : Table) (id : ℕ) (xs : List Exchange) (x : Exchange) → IsNextLeader table id xs x → next_leader table id xs ≡ Some (as_next_leader x)
 next_is table id xs x n =
-    ap (λ b. cond b (first_waiter_to_lead table id (exchanges_without id xs)) None) (le-leb (count_waiting id xs) most_followers n.few_enough_wait)
+    ap (λ b. cond b (first_waiter_to_lead table id (exchanges_without id xs)) None) (le-leb (count_waiting_for id xs) most_followers_led_on n.few_enough_wait)
     ∙ first_is table id xs n.before n.behind x n.open_exchanges_are n.it_may_lead n.none_before
 
 pub next_in_words : (table : Table) (id : ℕ) (xs : List Exchange) (next : NextLeader) → next_leader table id xs ≡ Some next → (x : Exchange) × IsNextLeader table id xs x
-next_in_words table id xs next h = by_count (nat_le (count_waiting id xs) most_followers) refl h
+next_in_words table id xs next h = by_count (nat_le (count_waiting_for id xs) most_followers_led_on) refl h
   where
-    by_count : (b : Bool) → nat_le (count_waiting id xs) most_followers ≡ b → cond b (first_waiter_to_lead table id (exchanges_without id xs)) None ≡ Some next → (x : Exchange) × IsNextLeader table id xs x
+    by_count : (b : Bool) → nat_le (count_waiting_for id xs) most_followers_led_on ≡ b → cond b (first_waiter_to_lead table id (exchanges_without id xs)) None ≡ Some next → (x : Exchange) × IsNextLeader table id xs x
     by_count true few k =
         let w = first_in_words table id xs next k in (
           w.0,
@@ -244,7 +244,7 @@ next_in_words table id xs next h = by_count (nat_le (count_waiting id xs) most_f
             open_exchanges_are = w.1.open_exchanges_are;
             it_may_lead = w.1.it_may_lead;
             none_before = w.1.none_before;
-            few_enough_wait = leb-true (count_waiting id xs) most_followers few;
+            few_enough_wait = leb-true (count_waiting_for id xs) most_followers_led_on few;
           },
         )
     by_count false few k = absurd (cc)
@@ -263,7 +263,7 @@ is_same true false h = sym h
 is_same false true h = h
 is_same false false h = refl
 
-pub follows_in_words : (table : Table) (next x : Exchange) → follows_next_leader table (as_next_leader next) x ≡ true → CouldBeSentAnswerOfNextLeader table next x
+pub follows_in_words : (table : Table) (next x : Exchange) → follows_next_leader table (as_next_leader next) x ≡ true → WaiterCouldBeSentNextLeadersAnswer table next x
 follows_in_words table next x h =
     let p = policy_of table.lines x.line in
     let same = bools_are_equal (has_authorization x.asked) (has_authorization next.asked) in
@@ -274,7 +274,7 @@ follows_in_words table next x h =
       has_same_authorization = λ w. same_is (has_authorization x.asked) (has_authorization next.asked) (by_word p.waits_for_stale same (and_right (wait_is_limited table x) (not p.waits_for_stale || same) rest) w);
     }
 
-pub follows_by_words : (table : Table) (next x : Exchange) → CouldBeSentAnswerOfNextLeader table next x → follows_next_leader table (as_next_leader next) x ≡ true
+pub follows_by_words : (table : Table) (next x : Exchange) → WaiterCouldBeSentNextLeadersAnswer table next x → follows_next_leader table (as_next_leader next) x ≡ true
 follows_by_words table next x c =
     let p = policy_of table.lines x.line in
     let same = bools_are_equal (has_authorization x.asked) (has_authorization next.asked) in

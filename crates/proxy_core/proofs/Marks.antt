@@ -11,15 +11,15 @@ use Rattle.proxy_core.specs.declared.outcome.Outcome.{Outcome}
 use Rattle.proxy_core.specs.declared.event.Event.{Event}
 use Rattle.proxy_core.specs.declared.event.Event.TheVariants.{Arrive, Answer, Fail, Wake, Abandon, Overdue}
 use Rattle.hx_store.specs.Stored.{Stored}
-use Rattle.proxy_core.specs.Outcomes.{find_exchange, exchange_id_of_event, fault_at_exchange, outcome_for_exchange}
+use Rattle.proxy_core.specs.Outcomes.{find_exchange, exchange_id_of_event, fault_at_exchange, outcome_of_event_at_exchange}
 use Rattle.proxy_core.specs.Carrying.{ExchangeWasJudged}
 use Rattle.proxy_core.specs.Scopes.{Scope, key_is_in_scope, scope_of_target_alone}
-use Rattle.proxy_core.specs.State.{overtaken_exchange}
-use Rattle.proxy_core.specs.Traces.{Item, initial_state, state_after_trace, IsGood}
-use Rattle.proxy_core.specs.Promises.{outcome_goes_forward, is_arrival_event, count_of_outcomes, request_after_event, latest_request_of, scope_overtaken_by_event, is_overtaken_key, item_overtakes_key, NoItemOvertakesKey, some_item_overtakes_key}
+use Rattle.proxy_core.specs.State.{exchange_overtaken_if_in_scope}
+use Rattle.proxy_core.specs.Traces.{Item, initial_state, state_after_trace, TraceIsGood}
+use Rattle.proxy_core.specs.Promises.{outcome_goes_forward, is_arrival_event, count_of_outcomes_of_id, latest_request_after_event, latest_request_of, scope_overtaken_by_event, is_overtaken_key, item_overtakes_key, NoItemOvertakesKey, some_item_overtakes_key}
 use Rattle.proxy_core.specs.declared.open.stage.Stage.TheVariants.{Forwarded, Waiting, Released}
 use Rattle.proxy_core.specs.Leading.{waits_for}
-use Rattle.proxy_core.specs.State.{released_exchange}
+use Rattle.proxy_core.specs.State.{exchange_released_from_leader}
 use Rattle.proxy_core.specs.Starts.{StoreAtStart}
 use Rattle.proxy_core.proofs.ExchangeLists.{overtaken_by, released_by}
 use Rattle.proxy_core.proofs.Moves.{Move, apart, opens, queues, passes, again, wakes, closes, turns, lapses, asked_of, ended_by, move_of, key_taken_by_answer, key_taken_by_step}
@@ -29,7 +29,7 @@ use Rattle.proxy_core.proofs.Tracing.{same_table}
 
 -- ---- the request of an open exchange is that of the latest arrival of its id
 
-overtake_asked : (key : Scope) (x : Exchange) → (overtaken_exchange key x).asked ≡ x.asked
+overtake_asked : (key : Scope) (x : Exchange) → (exchange_overtaken_if_in_scope key x).asked ≡ x.asked
 overtake_asked key x = elim (key_is_in_scope key x.asked.target.key) as (λ b. (cond b (record x { overtaken = true }) x).asked ≡ x.asked) [
   | true ↦ refl
   | false ↦ refl
@@ -40,7 +40,7 @@ asked_overtaken None x = refl
 asked_overtaken (Some key) None = refl
 asked_overtaken (Some key) (Some x) = ap (λ (a : Asked). Some a) (overtake_asked key x)
 
-asked_apart : (id : ℕ) (event : Event) (b : Option Asked) → eqb (exchange_id_of_event event) id ≡ false → request_after_event id event b ≡ b
+asked_apart : (id : ℕ) (event : Event) (b : Option Asked) → eqb (exchange_id_of_event event) id ≡ false → latest_request_after_event id event b ≡ b
 asked_apart id (Arrive now i asked) b n = ap (λ c. cond c (Some asked) b) n
 asked_apart id (Answer now i r) b n = refl
 asked_apart id (Fail now i kind) b n = refl
@@ -48,7 +48,7 @@ asked_apart id (Wake now i) b n = refl
 asked_apart id (Abandon i) b n = refl
 asked_apart id (Overdue i) b n = refl
 
-asked_late : (id : ℕ) (event : Event) (b : Option Asked) → is_arrival_event event ≡ false → request_after_event id event b ≡ b
+asked_late : (id : ℕ) (event : Event) (b : Option Asked) → is_arrival_event event ≡ false → latest_request_after_event id event b ≡ b
 asked_late id (Arrive now i asked) b n = absurd (false≢true (sym n))
 asked_late id (Answer now i r) b n = refl
 asked_late id (Fail now i kind) b n = refl
@@ -56,7 +56,7 @@ asked_late id (Wake now i) b n = refl
 asked_late id (Abandon i) b n = refl
 asked_late id (Overdue i) b n = refl
 
-release_asked : (i : ℕ) (x : Exchange) → (released_exchange i x).asked ≡ x.asked
+release_asked : (i : ℕ) (x : Exchange) → (exchange_released_from_leader i x).asked ≡ x.asked
 release_asked i x = elim (waits_for i x.stage) as (λ b. (cond b (record x { stage = Released }) x).asked ≡ x.asked) [
   | true ↦ refl
   | false ↦ refl
@@ -72,21 +72,21 @@ none_asked None a h g = cc
 none_asked (Some z) a h g = cc
 
 asked_more : (id : ℕ) (w : Option Exchange) (event : Event) (o : Outcome) (x y : Option Exchange) (b : Option Asked) (a : Asked) → Move id w event o x y →
-    ((a : Asked) → asked_of x ≡ Some a → b ≡ Some a) → asked_of y ≡ Some a → request_after_event id event b ≡ Some a
+    ((a : Asked) → asked_of x ≡ Some a → b ≡ Some a) → asked_of y ≡ Some a → latest_request_after_event id event b ≡ Some a
 asked_more id w event o x y b a (apart n h) f g =
     asked_apart id event b n ∙ f a (sym (asked_released (ended_by event o) x) ∙ sym (asked_overtaken (key_taken_by_step (asked_of w) event o) (released_by (ended_by event o) x)) ∙ sym (ap asked_of h) ∙ g)
 asked_more id w event o x y b a (opens table es now asked line e x_is k h) f g =
-    ap (λ v. request_after_event id v b) e ∙ ap (λ c. cond c (Some asked) b) (eq-eqb id id refl) ∙ sym (ap asked_of h) ∙ g
+    ap (λ v. latest_request_after_event id v b) e ∙ ap (λ c. cond c (Some asked) b) (eq-eqb id id refl) ∙ sym (ap asked_of h) ∙ g
 asked_more id w event o x y b a (queues table es now asked line leader e x_is k l h) f g =
-    ap (λ v. request_after_event id v b) e ∙ ap (λ c. cond c (Some asked) b) (eq-eqb id id refl) ∙ sym (ap asked_of h) ∙ g
+    ap (λ v. latest_request_after_event id v b) e ∙ ap (λ c. cond c (Some asked) b) (eq-eqb id id refl) ∙ sym (ap asked_of h) ∙ g
 asked_more id w event o x y b a (passes t e x_is k h) f g = absurd (none_asked y a h g)
 asked_more id w event o x y b a (again z now t e q c k h j s) f g = asked_late id event b e ∙ f a (ap asked_of q ∙ sym (ap asked_of h) ∙ g)
-asked_more id w event o x y b a (wakes table es z now e q s k h) f g = ap (λ v. request_after_event id v b) e ∙ f a (ap asked_of q ∙ sym (ap asked_of h) ∙ g)
+asked_more id w event o x y b a (wakes table es z now e q s k h) f g = ap (λ v. latest_request_after_event id v b) e ∙ f a (ap asked_of q ∙ sym (ap asked_of h) ∙ g)
 asked_more id w event o x y b a (closes z t e q k h) f g = absurd (none_asked y a h g)
-asked_more id w event o x y b a (turns z i m e n q s k h) f g = ap (λ v. request_after_event id v b) e ∙ f a (ap asked_of q ∙ sym (ap asked_of h) ∙ g)
-asked_more id w event o x y b a (lapses z e q s k h) f g = ap (λ v. request_after_event id v b) e ∙ f a (ap asked_of q ∙ sym (ap asked_of h) ∙ g)
+asked_more id w event o x y b a (turns z i m e n q s k h) f g = ap (λ v. latest_request_after_event id v b) e ∙ f a (ap asked_of q ∙ sym (ap asked_of h) ∙ g)
+asked_more id w event o x y b a (lapses z e q s k h) f g = ap (λ v. latest_request_after_event id v b) e ∙ f a (ap asked_of q ∙ sym (ap asked_of h) ∙ g)
 
-pub asked_is : (table : Table) (start : StoreAtStart) (first : ℕ) (past : List Item) → IsGood (initial_state table start first) past → (id : ℕ) (a : Asked) →
+pub asked_is : (table : Table) (start : StoreAtStart) (first : ℕ) (past : List Item) → TraceIsGood (initial_state table start first) past → (id : ℕ) (a : Asked) →
     asked_of (find_exchange id (state_after_trace (initial_state table start first) past).exchanges) ≡ Some a → latest_request_of id past ≡ Some a
 asked_is table start first [] g id a h = absurd (cc)
 asked_is table start first (i ∷ past) g id a k =
@@ -106,7 +106,7 @@ key_is None (Overdue i) o b f h = absurd (cc)
 
 -- and as its outcome shows it
 shown : (table : Table) (start : StoreAtStart) (past : List Item) (es : List Stored) (xs : List Exchange) (next : Option ℕ) (w : Option Exchange) (event : Event) (o : Outcome) →
-    ((z : Exchange) → w ≡ Some z → ExchangeWasJudged table start z past) → o ≡ outcome_for_exchange table es xs w next event →
+    ((z : Exchange) → w ≡ Some z → ExchangeWasJudged table start z past) → o ≡ outcome_of_event_at_exchange table es xs w next event →
     scope_overtaken_by_event (asked_of w) event o ≡ key_taken_by_step (asked_of w) event o
 shown table start past es xs next None (Arrive now i asked) o a is = refl
 shown table start past es xs next None (Answer now i r) o a is = refl
@@ -122,7 +122,7 @@ shown table start past es xs next (Some z) (Wake now i) o a is = refl
 shown table start past es xs next (Some z) (Abandon i) o a is = refl
 shown table start past es xs next (Some z) (Overdue i) o a is = refl
 
-pub same_key_of_step : (table : Table) (start : StoreAtStart) (first : ℕ) (i : Item) (past : List Item) → IsGood (initial_state table start first) (i ∷ past) →
+pub same_key_of_step : (table : Table) (start : StoreAtStart) (first : ℕ) (i : Item) (past : List Item) → TraceIsGood (initial_state table start first) (i ∷ past) →
     scope_overtaken_by_event (latest_request_of (exchange_id_of_event i.event) past) i.event i.outcome
     ≡ key_taken_by_step (asked_of (find_exchange (exchange_id_of_event i.event) (state_after_trace (initial_state table start first) past).exchanges)) i.event i.outcome
 same_key_of_step table start first i past g =
@@ -149,14 +149,14 @@ or_all : (b : Bool) → true ≡ (b || true)
 or_all true = refl
 or_all false = refl
 
-overtake_marks : (key : Scope) (x : Exchange) → (overtaken_exchange key x).overtaken ≡ (x.overtaken || key_is_in_scope key x.asked.target.key)
+overtake_marks : (key : Scope) (x : Exchange) → (exchange_overtaken_if_in_scope key x).overtaken ≡ (x.overtaken || key_is_in_scope key x.asked.target.key)
 overtake_marks key x =
     elim (key_is_in_scope key x.asked.target.key) as (λ b. (cond b (record x { overtaken = true }) x).overtaken ≡ (x.overtaken || b)) [
       | true ↦ or_all x.overtaken
       | false ↦ or_none x.overtaken
     ]
 
-overtake_stage : (key : Scope) (x : Exchange) → (overtaken_exchange key x).stage ≡ x.stage
+overtake_stage : (key : Scope) (x : Exchange) → (exchange_overtaken_if_in_scope key x).stage ≡ x.stage
 overtake_stage key x = elim (key_is_in_scope key x.asked.target.key) as (λ b. (cond b (record x { overtaken = true }) x).stage ≡ x.stage) [
   | true ↦ refl
   | false ↦ refl
@@ -166,7 +166,7 @@ unmarked : (key : Option Scope) (x : Option Exchange) (z : Exchange) → overtak
 unmarked None x z h = record { was = z; x_is = h; asked = refl; overtaken = or_none z.overtaken; stage = refl }
 unmarked (Some key) None z h = absurd (cc)
 unmarked (Some key) (Some u) z h =
-    let e : overtaken_exchange key u ≡ z = same_Some (overtaken_exchange key u) z h in
+    let e : exchange_overtaken_if_in_scope key u ≡ z = same_Some (exchange_overtaken_if_in_scope key u) z h in
     record {
       was = u;
       x_is = refl;
@@ -179,7 +179,7 @@ unmarked (Some key) (Some u) z h =
 unreleased : (gone : Option ℕ) (x : Option Exchange) (z : Exchange) → released_by gone x ≡ Some z → z.stage ≡ Forwarded → x ≡ Some z
 unreleased None x z h s = h
 unreleased (Some i) None z h s = absurd (cc)
-unreleased (Some i) (Some u) z h s = by_test (waits_for i u.stage) refl (same_Some (released_exchange i u) z h)
+unreleased (Some i) (Some u) z h s = by_test (waits_for i u.stage) refl (same_Some (exchange_released_from_leader i u) z h)
   where
     by_test : (b : Bool) → waits_for i u.stage ≡ b → cond b (record u { stage = Released }) u ≡ z → Some u ≡ Some z
     by_test true k e =
@@ -227,7 +227,7 @@ module _ (table : Table) (start : StoreAtStart) (first : ℕ) (f : Item) (before
   IsOut items = (z : Exchange) → exchange items ≡ Some z → z.stage ≡ Forwarded →
       (latest_request_of id (f ∷ before) ≡ Some z.asked) × (z.overtaken ≡ some_item_overtakes_key z.asked.target.key items (f ∷ before))
 
-  out_step : (i : Item) (items : List Item) → IsGood (initial_state table start first) (i ∷ (items ++ f ∷ before)) → (eqb (exchange_id_of_event i.event) id && outcome_goes_forward i.outcome) ≡ false →
+  out_step : (i : Item) (items : List Item) → TraceIsGood (initial_state table start first) (i ∷ (items ++ f ∷ before)) → (eqb (exchange_id_of_event i.event) id && outcome_goes_forward i.outcome) ≡ false →
       IsOut items → (y : Option Exchange) →
       Move id (find_exchange (exchange_id_of_event i.event) (state_after_trace (initial_state table start first) (items ++ f ∷ before)).exchanges) i.event i.outcome (exchange items) y →
       (z : Exchange) → y ≡ Some z → z.stage ≡ Forwarded → (latest_request_of id (f ∷ before) ≡ Some z.asked) × (z.overtaken ≡ some_item_overtakes_key z.asked.target.key (i ∷ items) (f ∷ before))
@@ -267,8 +267,8 @@ module _ (table : Table) (start : StoreAtStart) (first : ℕ) (f : Item) (before
       absurd (cc)
 
   -- since f, by which the exchange went forward last
-  pub out_since : (items : List Item) → IsGood (initial_state table start first) (items ++ f ∷ before) → outcome_goes_forward f.outcome ≡ true → exchange_id_of_event f.event ≡ id →
-      count_of_outcomes outcome_goes_forward id items ≡ 0 → (z : Exchange) → exchange items ≡ Some z → z.stage ≡ Forwarded →
+  pub out_since : (items : List Item) → TraceIsGood (initial_state table start first) (items ++ f ∷ before) → outcome_goes_forward f.outcome ≡ true → exchange_id_of_event f.event ≡ id →
+      count_of_outcomes_of_id outcome_goes_forward id items ≡ 0 → (z : Exchange) → exchange items ≡ Some z → z.stage ≡ Forwarded →
       (latest_request_of id (f ∷ before) ≡ Some z.asked) × (z.overtaken ≡ some_item_overtakes_key z.asked.target.key items (f ∷ before))
   out_since [] g o e n = λ z q stage. (
     asked_is table start first (f ∷ before) g id z.asked (ap asked_of q),

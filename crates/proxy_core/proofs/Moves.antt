@@ -9,7 +9,7 @@ use Rattle.hx_framing.specs.declared.messages.Response.{Response}
 use Rattle.hx_hop.specs.declared.request_view.Asked.{Asked}
 use Rattle.hx_allow.specs.TableLines.{Table}
 use Rattle.hx_allow.specs.Matching.{policy_of}
-use Rattle.hx_allow.specs.declared.verdicts.RequestRoute.{RequestRoute}
+use Rattle.hx_allow.specs.declared.verdicts.RouteOverLine.{RouteOverLine}
 use Rattle.proxy_core.specs.Allowing.{verdict_of_asked}
 use Rattle.hx_store.specs.Stored.{Stored}
 use Rattle.hx_reuse.specs.Rules.{decision_of}
@@ -27,22 +27,22 @@ use Rattle.proxy_core.specs.Moments.{moment_too_late_fault}
 use Rattle.proxy_core.specs.declared.open.stage.Stage.TheVariants.{Waiting, Released}
 use Rattle.proxy_core.specs.declared.open.as_next_leader.NextLeader.{NextLeader}
 use Rattle.proxy_core.specs.Leading.{is_forwarded, is_waiting, is_released, waits_for}
-use Rattle.proxy_core.specs.LeadingOn.{wait_is_limited, next_leader, stage_after_leader, after_abandon, exchanges_without, exchanges_after_abandon}
-use Rattle.proxy_core.specs.declared.steps.fallback.Fallback.{Fallback}
-use Rattle.proxy_core.specs.declared.steps.fallback.Fallback.TheVariants.{Sends, Refuses}
+use Rattle.proxy_core.specs.LeadingOn.{wait_is_limited, next_leader, stage_after_leader, waiter_after_abandon, exchanges_without, exchanges_after_abandon}
+use Rattle.proxy_core.specs.declared.steps.fallback.FallbackDecision.{FallbackDecision}
+use Rattle.proxy_core.specs.declared.steps.fallback.FallbackDecision.TheVariants.{Sends, Refuses}
 use Rattle.proxy_core.specs.declared.outcome.Outcome.{Outcome}
 use Rattle.proxy_core.specs.declared.outcome.Outcome.TheVariants.{Reply, Forward, Waits, Ended, WaitsNoMore}
 use Rattle.proxy_core.specs.declared.event.Event.{Event}
 use Rattle.proxy_core.specs.declared.event.Event.TheVariants.{Arrive, Answer, Fail, Wake, Abandon, Overdue}
-use Rattle.proxy_core.specs.Validating.{condition_about_serial, is_304_to_own_conditions, stored_response_validated}
+use Rattle.proxy_core.specs.Validating.{condition_to_revalidate_serial, is_304_to_own_conditions, stored_response_validated_by_304}
 use Rattle.proxy_core.specs.Storing.{is_304_without_condition, key_invalidated}
-use Rattle.proxy_core.specs.Outcomes.{find_exchange, exchange_id_of_event, fallback_for_failed_answer, outcome_of_failure, is_error_status, outcome_of_passing_on_or_stale, outcome_of_304, outcome_of_answer, outcome_of_wake, outcome_for_exchange, fault_else, fault_if_not_forwarded, fault_if_not_released, fault_at_exchange, fault_if_not_waiting}
+use Rattle.proxy_core.specs.Outcomes.{find_exchange, exchange_id_of_event, fallback_for_failed_answer, outcome_of_failure, is_stale_if_error_status, outcome_of_passing_on_or_stale, outcome_of_304, outcome_of_answer, outcome_of_wake, outcome_of_event_at_exchange, fault_else, fault_if_not_forwarded, fault_if_not_released, fault_at_exchange, fault_if_not_waiting}
 use Rattle.proxy_core.specs.Scopes.{Scope, scope_of_target_alone}
-use Rattle.proxy_core.specs.State.{State, state_after_event, open_exchanges_after, forwarded_exchange, waiting_exchange, line_of_verdict, rule_of_decision, serial_named_by_decision, exchange_gone_forward, exchange_forwarded_again, exchange_sent_forward, exchanges_after_wake, scope_invalidated_by_response, scope_purged, exchange_released_by_timeout, overdue_exchange}
+use Rattle.proxy_core.specs.State.{State, state_after_event, open_exchanges_after_event, forwarded_exchange, exchange_begun_waiting, line_of_verdict, rule_of_decision, serial_named_by_rule_of_decision, exchange_gone_forward, exchange_after_second_forward, exchange_sent_forward_if_of_id, exchanges_after_wake, target_invalidated_by_response, scope_purged, exchange_released_by_timeout, exchange_after_wait_timeout}
 use Rattle.proxy_core.specs.Traces.{Item, ItemIsAccepted}
 use Rattle.proxy_core.specs.Promises.{outcome_goes_forward, outcome_is_reply, outcome_ends_exchange, is_arrival_event, reply_uses_no_stored_response}
 use Rattle.proxy_core.specs.Carrying.{is_arrival_or_wake}
-use Rattle.proxy_core.specs.TraceMeaning.{opens_an_exchange}
+use Rattle.proxy_core.specs.TraceMeaning.{outcome_opens_exchange}
 use Rattle.proxy_core.proofs.UnsafeRequests.{unsafe_refuses}
 use Rattle.proxy_core.proofs.LedOn.{behind_is}
 use Rattle.proxy_core.proofs.ExchangeLists.{find-map, find-closed, find-abandoned, find-push, find-gone_out, find-left_open, find-purged, none_overtaken, found-id, sent_out-id, overdue-id, overtaken_by, changed_by}
@@ -58,7 +58,7 @@ out_again now z = exchange_gone_forward now z.rule z.named None z
 -- the exchange that was woken and went forward
 abbrev pub woken_form : Table → List Stored → ℕ → Exchange → Exchange
 woken_form table es now z =
-    exchange_gone_forward now (rule_of_decision (decision_of (policy_of table.lines z.line) es z.asked now)) (serial_named_by_decision (decision_of (policy_of table.lines z.line) es z.asked now)) (condition_about_serial es (serial_named_by_decision (decision_of (policy_of table.lines z.line) es z.asked now))) z
+    exchange_gone_forward now (rule_of_decision (decision_of (policy_of table.lines z.line) es z.asked now)) (serial_named_by_rule_of_decision (decision_of (policy_of table.lines z.line) es z.asked now)) (condition_to_revalidate_serial es (serial_named_by_rule_of_decision (decision_of (policy_of table.lines z.line) es z.asked now))) z
 
 -- the exchange that ends by a step
 abbrev pub ended_by : Event → Outcome → Option ℕ
@@ -96,10 +96,10 @@ key_taken_by_step asked (Overdue id) outcome = None
 -- of a step of the exchange w of its own id, what becomes of the exchange x of an id
 pub data Move (id : ℕ) (w : Option Exchange) (event : Event) (o : Outcome) (x y : Option Exchange) : Type 0 where
   apart : eqb (exchange_id_of_event event) id ≡ false → y ≡ changed_by (key_taken_by_step (asked_of w) event o) (ended_by event o) x → Move id w event o x y
-  opens : (table : Table) (es : List Stored) (now : ℕ) (asked : Asked) (line : RequestRoute) → event ≡ Arrive now id asked → x ≡ None → outcome_goes_forward o ≡ true → y ≡ Some (forwarded_exchange table es now id asked line) → Move id w event o x y
-  queues : (table : Table) (es : List Stored) (now : ℕ) (asked : Asked) (line : RequestRoute) (leader : ℕ) → event ≡ Arrive now id asked → x ≡ None → o ≡ Waits leader →
-      line ≡ line_of_verdict (verdict_of_asked table asked) → y ≡ Some (waiting_exchange table es now id asked line leader) → Move id w event o x y
-  passes : eqb (exchange_id_of_event event) id ≡ true → is_arrival_event event ≡ true → x ≡ None → opens_an_exchange o ≡ false → y ≡ None → Move id w event o x y
+  opens : (table : Table) (es : List Stored) (now : ℕ) (asked : Asked) (line : RouteOverLine) → event ≡ Arrive now id asked → x ≡ None → outcome_goes_forward o ≡ true → y ≡ Some (forwarded_exchange table es now id asked line) → Move id w event o x y
+  queues : (table : Table) (es : List Stored) (now : ℕ) (asked : Asked) (line : RouteOverLine) (leader : ℕ) → event ≡ Arrive now id asked → x ≡ None → o ≡ Waits leader →
+      line ≡ line_of_verdict (verdict_of_asked table asked) → y ≡ Some (exchange_begun_waiting table es now id asked line leader) → Move id w event o x y
+  passes : eqb (exchange_id_of_event event) id ≡ true → is_arrival_event event ≡ true → x ≡ None → outcome_opens_exchange o ≡ false → y ≡ None → Move id w event o x y
   again : (z : Exchange) (now : ℕ) → eqb (exchange_id_of_event event) id ≡ true → is_arrival_event event ≡ false → x ≡ Some z → is_some z.condition ≡ true →
       outcome_goes_forward o ≡ true → y ≡ Some (out_again now z) → is_arrival_or_wake event ≡ false → is_forwarded z.stage ≡ true → Move id w event o x y
   wakes : (table : Table) (es : List Stored) (z : Exchange) (now : ℕ) → event ≡ Wake now id → x ≡ Some z → is_released z.stage ≡ true → outcome_goes_forward o ≡ true →
@@ -114,19 +114,19 @@ pub and_none : (a : Bool) → (a && false) ≡ false
 and_none true = refl
 and_none false = refl
 
-failed_reply : (table : Table) (es : List Stored) (now : ℕ) (x : Exchange) (kind : FailKind) (came : Option ℕ) (fallback : Fallback) → outcome_is_reply (outcome_of_failure table es now x kind came fallback) ≡ true
+failed_reply : (table : Table) (es : List Stored) (now : ℕ) (x : Exchange) (kind : FailKind) (came : Option ℕ) (fallback : FallbackDecision) → outcome_is_reply (outcome_of_failure table es now x kind came fallback) ≡ true
 failed_reply table es now x kind came (Sends serial detail) = refl
 failed_reply table es now x kind came (Refuses rule error) = refl
 
-failed_ends : (table : Table) (es : List Stored) (now : ℕ) (x : Exchange) (kind : FailKind) (came : Option ℕ) (fallback : Fallback) → outcome_ends_exchange (outcome_of_failure table es now x kind came fallback) ≡ true
+failed_ends : (table : Table) (es : List Stored) (now : ℕ) (x : Exchange) (kind : FailKind) (came : Option ℕ) (fallback : FallbackDecision) → outcome_ends_exchange (outcome_of_failure table es now x kind came fallback) ≡ true
 failed_ends table es now x kind came (Sends serial detail) = refl
 failed_ends table es now x kind came (Refuses rule error) = refl
 
-pub failed_back : (table : Table) (es : List Stored) (now : ℕ) (x : Exchange) (kind : FailKind) (came : Option ℕ) (fallback : Fallback) → outcome_goes_forward (outcome_of_failure table es now x kind came fallback) ≡ false
+pub failed_back : (table : Table) (es : List Stored) (now : ℕ) (x : Exchange) (kind : FailKind) (came : Option ℕ) (fallback : FallbackDecision) → outcome_goes_forward (outcome_of_failure table es now x kind came fallback) ≡ false
 failed_back table es now x kind came (Sends serial detail) = refl
 failed_back table es now x kind came (Refuses rule error) = refl
 
-passed_back : (table : Table) (es : List Stored) (now : ℕ) (x : Exchange) (r : Response) (next : Option ℕ) (b : Bool) (fallback : Fallback) → outcome_goes_forward (outcome_of_passing_on_or_stale table es now x r next b fallback) ≡ false
+passed_back : (table : Table) (es : List Stored) (now : ℕ) (x : Exchange) (r : Response) (next : Option ℕ) (b : Bool) (fallback : FallbackDecision) → outcome_goes_forward (outcome_of_passing_on_or_stale table es now x r next b fallback) ≡ false
 passed_back table es now x r next true (Sends serial detail) = refl
 passed_back table es now x r next true (Refuses rule error) = refl
 passed_back table es now x r next false fallback = refl
@@ -140,26 +140,26 @@ held_sent table es now x r None (decision.Forward rule against) = refl
 again_asked : (table : Table) (es : List Stored) (now : ℕ) (x : Exchange) (r : Response) (next : Option ℕ) (d : Decision) → outcome_goes_forward (outcome_of_answer table es now x r next d) ≡ true → is_304_to_own_conditions x r ≡ true
 again_asked table es now x r next d h = by_304 (is_304_to_own_conditions x r) h
   where
-    by_304 : (b : Bool) → outcome_goes_forward (cond b (outcome_of_304 table es now x r (stored_response_validated es x r now) d)
+    by_304 : (b : Bool) → outcome_goes_forward (cond b (outcome_of_304 table es now x r (stored_response_validated_by_304 es x r now) d)
         (cond (is_304_without_condition (policy_of table.lines x.line) x.asked r) (outcome_of_failure table es now x BadAnswer (Some r.status) (fallback_for_failed_answer (policy_of table.lines x.line) es x.asked now d))
-        (outcome_of_passing_on_or_stale table es now x r next (is_error_status r.status) (fallback_for_failed_answer (policy_of table.lines x.line) es x.asked now d)))) ≡ true → b ≡ true
+        (outcome_of_passing_on_or_stale table es now x r next (is_stale_if_error_status r.status) (fallback_for_failed_answer (policy_of table.lines x.line) es x.asked now d)))) ≡ true → b ≡ true
     by_304 true h = refl
     by_304 false h = absurd (by_unasked (is_304_without_condition (policy_of table.lines x.line) x.asked r) h)
       where
         by_unasked : (b : Bool) → outcome_goes_forward (cond b (outcome_of_failure table es now x BadAnswer (Some r.status) (fallback_for_failed_answer (policy_of table.lines x.line) es x.asked now d))
-            (outcome_of_passing_on_or_stale table es now x r next (is_error_status r.status) (fallback_for_failed_answer (policy_of table.lines x.line) es x.asked now d))) ≡ true → ⊥
+            (outcome_of_passing_on_or_stale table es now x r next (is_stale_if_error_status r.status) (fallback_for_failed_answer (policy_of table.lines x.line) es x.asked now d))) ≡ true → ⊥
         by_unasked true h = false≢true (sym (failed_back table es now x BadAnswer (Some r.status) (fallback_for_failed_answer (policy_of table.lines x.line) es x.asked now d)) ∙ h)
-        by_unasked false h = false≢true (sym (passed_back table es now x r next (is_error_status r.status) (fallback_for_failed_answer (policy_of table.lines x.line) es x.asked now d)) ∙ h)
+        by_unasked false h = false≢true (sym (passed_back table es now x r next (is_stale_if_error_status r.status) (fallback_for_failed_answer (policy_of table.lines x.line) es x.asked now d)) ∙ h)
 
 and_right : (a b : Bool) → (a && b) ≡ true → b ≡ true
 and_right true b h = h
 and_right false b h = absurd (false≢true h)
 
 -- an error is no answer that invalidates
-pub error_is_none : (status : ℕ) → is_error_status status ≡ true → (nat_le 200 status && nat_le status 399) ≡ false
+pub error_is_none : (status : ℕ) → is_stale_if_error_status status ≡ true → (nat_le 200 status && nat_le status 399) ≡ false
 error_is_none status h = grind (arith, nat_tests)
 
-passed_sends : (table : Table) (es : List Stored) (now : ℕ) (x : Exchange) (r : Response) (next : Option ℕ) (fallback : Fallback) → reply_uses_no_stored_response (outcome_of_passing_on_or_stale table es now x r next false fallback) ≡ true
+passed_sends : (table : Table) (es : List Stored) (now : ℕ) (x : Exchange) (r : Response) (next : Option ℕ) (fallback : FallbackDecision) → reply_uses_no_stored_response (outcome_of_passing_on_or_stale table es now x r next false fallback) ≡ true
 passed_sends table es now x r next fallback = refl
 
 -- the tests of both definitions: u unsafe, c no error, v a 304 to the proxy's conditions, s no stored response is sent
@@ -171,10 +171,10 @@ same_tests true true false s h k = sym (k refl refl refl)
 
 answer_sends : (table : Table) (es : List Stored) (now : ℕ) (x : Exchange) (r : Response) (next : Option ℕ) (d : Decision) (rule : ReuseRule)
     → (v n e : Bool) → v ≡ false → e ≡ false → fallback_for_failed_answer (policy_of table.lines x.line) es x.asked now d ≡ Refuses rule None
-    → reply_uses_no_stored_response (cond v (outcome_of_304 table es now x r (stored_response_validated es x r now) d)
+    → reply_uses_no_stored_response (cond v (outcome_of_304 table es now x r (stored_response_validated_by_304 es x r now) d)
     (cond n (outcome_of_failure table es now x BadAnswer (Some r.status) (fallback_for_failed_answer (policy_of table.lines x.line) es x.asked now d)) (outcome_of_passing_on_or_stale table es now x r next e (fallback_for_failed_answer (policy_of table.lines x.line) es x.asked now d)))) ≡ true
 answer_sends table es now x r next d rule true n e hv he f = absurd (false≢true (sym hv))
-answer_sends table es now x r next d rule false true e hv he f = ap (λ (o : Fallback). reply_uses_no_stored_response (outcome_of_failure table es now x BadAnswer (Some r.status) o)) f
+answer_sends table es now x r next d rule false true e hv he f = ap (λ (o : FallbackDecision). reply_uses_no_stored_response (outcome_of_failure table es now x BadAnswer (Some r.status) o)) f
 answer_sends table es now x r next d rule false false true hv he f = absurd (false≢true (sym he))
 answer_sends table es now x r next d rule false false false hv he f = refl
 
@@ -186,12 +186,12 @@ same_key_invalidated table es now x r next =
     let o = outcome_of_answer table es now x r next d in
     let v = is_304_to_own_conditions x r in
     let n = is_304_without_condition (policy_of table.lines x.line) x.asked r in
-    let e = is_error_status r.status in
+    let e = is_stale_if_error_status r.status in
     let c = nat_le 200 r.status && nat_le r.status 399 in
     let by_304 : v ≡ true → reply_uses_no_stored_response o ≡ false = λ h.
-    ap (λ b. reply_uses_no_stored_response (cond b (outcome_of_304 table es now x r (stored_response_validated es x r now) d)
+    ap (λ b. reply_uses_no_stored_response (cond b (outcome_of_304 table es now x r (stored_response_validated_by_304 es x r now) d)
     (cond n (outcome_of_failure table es now x BadAnswer (Some r.status) (fallback_for_failed_answer (policy_of table.lines x.line) es x.asked now d)) (outcome_of_passing_on_or_stale table es now x r next e (fallback_for_failed_answer (policy_of table.lines x.line) es x.asked now d))))) h
-    ∙ held_sent table es now x r (stored_response_validated es x r now) d
+    ∙ held_sent table es now x r (stored_response_validated_by_304 es x r now) d
     in
     let by_status : v ≡ false → not (is_among safe_methods x.asked.method) ≡ true → c ≡ true → reply_uses_no_stored_response o ≡ true = λ hv hu hc.
     let refuses = unsafe_refuses (policy_of table.lines x.line) es x.asked now (turned (is_among safe_methods x.asked.method) hu) in
@@ -205,7 +205,7 @@ same_key_invalidated table es now x r next =
 
 -- what is done to an exchange of another id
 other_out : (i now : ℕ) (id : ℕ) (o : Option Exchange) → eqb i id ≡ false → ((z : Exchange) → o ≡ Some z → eqb z.id id ≡ true) →
-    option_map (exchange_forwarded_again i now) o ≡ o
+    option_map (exchange_after_second_forward i now) o ≡ o
 other_out i now id None n h = refl
 other_out i now id (Some z) n h =
     let e = eqb-true z.id id (h z refl) in
@@ -213,7 +213,7 @@ other_out i now id (Some z) n h =
     ap (λ b. Some (cond b (out_again now z) z)) off
 
 other_sent : (i now : ℕ) (q : ReuseRule) (n : Option ℕ) (c : Option Condition) (id : ℕ) (o : Option Exchange) → eqb i id ≡ false → ((z : Exchange) → o ≡ Some z → eqb z.id id ≡ true) →
-    option_map (exchange_sent_forward i now q n c) o ≡ o
+    option_map (exchange_sent_forward_if_of_id i now q n c) o ≡ o
 other_sent i now q n c id None off_id h = refl
 other_sent i now q n c id (Some z) off_id h =
     let e = eqb-true z.id id (h z refl) in
@@ -221,7 +221,7 @@ other_sent i now q n c id (Some z) off_id h =
     ap (λ b. Some (cond b (exchange_gone_forward now q n c z) z)) off
 
 pub other_overdue : (i id : ℕ) (o : Option Exchange) → eqb i id ≡ false → ((z : Exchange) → o ≡ Some z → eqb z.id id ≡ true) →
-    option_map (overdue_exchange i) o ≡ o
+    option_map (exchange_after_wait_timeout i) o ≡ o
 other_overdue i id None n h = refl
 other_overdue i id (Some z) n h =
     let e = eqb-true z.id id (h z refl) in
@@ -254,7 +254,7 @@ waiting_from s h = by_test (is_waiting s) h
     by_test true h = refl
     by_test false h = absurd (cc)
 
-no_key : (asked : Asked) (r : Response) (line : RequestRoute) (bytes : List ℕ) → key_taken_by_answer asked r (Forward line bytes) ≡ None
+no_key : (asked : Asked) (r : Response) (line : RouteOverLine) (bytes : List ℕ) → key_taken_by_answer asked r (Forward line bytes) ≡ None
 no_key asked r line bytes = ap (λ b. cond b (Some asked.target.key) None)
     (ap (λ b. not (is_among safe_methods asked.method) && b) (and_none (nat_le 200 r.status && nat_le r.status 399)) ∙ and_none (not (is_among safe_methods asked.method)))
 
@@ -273,24 +273,24 @@ answer_either table es now x r next d = by_304 (is_304_to_own_conditions x r)
     again_or_sent None (decision.Hit serial) = refl
     again_or_sent None (decision.Forward rule against) = refl
 
-    by_fallback : (fallback : Fallback) → is_either (outcome_of_failure table es now x BadAnswer (Some r.status) fallback) ≡ true
+    by_fallback : (fallback : FallbackDecision) → is_either (outcome_of_failure table es now x BadAnswer (Some r.status) fallback) ≡ true
     by_fallback (Sends serial detail) = refl
     by_fallback (Refuses rule error) = refl
 
-    by_error : (e : Bool) (fallback : Fallback) → is_either (outcome_of_passing_on_or_stale table es now x r next e fallback) ≡ true
+    by_error : (e : Bool) (fallback : FallbackDecision) → is_either (outcome_of_passing_on_or_stale table es now x r next e fallback) ≡ true
     by_error true (Sends serial detail) = refl
     by_error true (Refuses rule error) = refl
     by_error false fallback = refl
 
     by_unasked : (b : Bool) → is_either (cond b (outcome_of_failure table es now x BadAnswer (Some r.status) (fallback_for_failed_answer (policy_of table.lines x.line) es x.asked now d))
-        (outcome_of_passing_on_or_stale table es now x r next (is_error_status r.status) (fallback_for_failed_answer (policy_of table.lines x.line) es x.asked now d))) ≡ true
+        (outcome_of_passing_on_or_stale table es now x r next (is_stale_if_error_status r.status) (fallback_for_failed_answer (policy_of table.lines x.line) es x.asked now d))) ≡ true
     by_unasked true = by_fallback (fallback_for_failed_answer (policy_of table.lines x.line) es x.asked now d)
-    by_unasked false = by_error (is_error_status r.status) (fallback_for_failed_answer (policy_of table.lines x.line) es x.asked now d)
+    by_unasked false = by_error (is_stale_if_error_status r.status) (fallback_for_failed_answer (policy_of table.lines x.line) es x.asked now d)
 
-    by_304 : (b : Bool) → is_either (cond b (outcome_of_304 table es now x r (stored_response_validated es x r now) d)
+    by_304 : (b : Bool) → is_either (cond b (outcome_of_304 table es now x r (stored_response_validated_by_304 es x r now) d)
         (cond (is_304_without_condition (policy_of table.lines x.line) x.asked r) (outcome_of_failure table es now x BadAnswer (Some r.status) (fallback_for_failed_answer (policy_of table.lines x.line) es x.asked now d))
-        (outcome_of_passing_on_or_stale table es now x r next (is_error_status r.status) (fallback_for_failed_answer (policy_of table.lines x.line) es x.asked now d)))) ≡ true
-    by_304 true = again_or_sent (stored_response_validated es x r now) d
+        (outcome_of_passing_on_or_stale table es now x r next (is_stale_if_error_status r.status) (fallback_for_failed_answer (policy_of table.lines x.line) es x.asked now d)))) ≡ true
+    by_304 true = again_or_sent (stored_response_validated_by_304 es x r now) d
     by_304 false = by_unasked (is_304_without_condition (policy_of table.lines x.line) x.asked r)
 
 module _ (table : Table) (es : List Stored) (xs : List Exchange) (next : Option ℕ) (id : ℕ) where
@@ -308,7 +308,7 @@ module _ (table : Table) (es : List Stored) (xs : List Exchange) (next : Option 
       ]
 
   arrives : (now i : ℕ) (asked : Asked) (o : Outcome) → find_exchange i xs ≡ None →
-      Move id None (Arrive now i asked) o (find_exchange id xs) (find_exchange id (open_exchanges_after table es xs (Arrive now i asked) o))
+      Move id None (Arrive now i asked) o (find_exchange id xs) (find_exchange id (open_exchanges_after_event table es xs (Arrive now i asked) o))
   arrives now i asked (Forward line bytes) f =
       let p = find-push id xs (forwarded_exchange table es now i asked line) f in
       elim (cases_Bool (eqb i id)) [
@@ -320,15 +320,15 @@ module _ (table : Table) (es : List Stored) (xs : List Exchange) (next : Option 
         | inr n ↦ apart n (p ∙ ap (λ b. cond b (Some (forwarded_exchange table es now i asked line)) (find_exchange id xs)) n)
       ]
   arrives now i asked (Waits leader) f =
-      let line : RequestRoute = line_of_verdict (verdict_of_asked table asked) in
-      let p = find-push id xs (waiting_exchange table es now i asked line leader) f in
+      let line : RouteOverLine = line_of_verdict (verdict_of_asked table asked) in
+      let p = find-push id xs (exchange_begun_waiting table es now i asked line leader) f in
       elim (cases_Bool (eqb i id)) [
         | inl t ↦ (
             let same = eqb-true i id t in
             queues table es now asked line leader (ap (λ n. Arrive now n asked) same) (ap (λ n. find_exchange n xs) (sym same) ∙ f) refl refl
-            (p ∙ ap (λ b. cond b (Some (waiting_exchange table es now i asked line leader)) (find_exchange id xs)) t ∙ ap (λ n. Some (waiting_exchange table es now n asked line leader)) same)
+            (p ∙ ap (λ b. cond b (Some (exchange_begun_waiting table es now i asked line leader)) (find_exchange id xs)) t ∙ ap (λ n. Some (exchange_begun_waiting table es now n asked line leader)) same)
             )
-        | inr n ↦ apart n (p ∙ ap (λ b. cond b (Some (waiting_exchange table es now i asked line leader)) (find_exchange id xs)) n)
+        | inr n ↦ apart n (p ∙ ap (λ b. cond b (Some (exchange_begun_waiting table es now i asked line leader)) (find_exchange id xs)) n)
       ]
   arrives now i asked (Reply r) f =
       let purged = find-purged (scope_purged asked (Reply r)) id xs in
@@ -349,7 +349,7 @@ module _ (table : Table) (es : List Stored) (xs : List Exchange) (next : Option 
   ]
 
   answers : (now i : ℕ) (r : Response) (z : Exchange) (o : Outcome) → find_exchange i xs ≡ Some z → is_forwarded z.stage ≡ true → o ≡ outcome_of_answer table es now z r next (decision_of (policy_of table.lines z.line) es z.asked now) →
-      Move id (Some z) (Answer now i r) o (find_exchange id xs) (find_exchange id (open_exchanges_after table es xs (Answer now i r) o))
+      Move id (Some z) (Answer now i r) o (find_exchange id xs) (find_exchange id (open_exchanges_after_event table es xs (Answer now i r) o))
   answers now i r z (Forward line bytes) f s h =
       let d = decision_of (policy_of table.lines z.line) es z.asked now in
       let p = find-gone_out i now id xs in
@@ -358,15 +358,15 @@ module _ (table : Table) (es : List Stored) (xs : List Exchange) (next : Option 
         | inl t ↦ (
             let x_is : find_exchange id xs ≡ Some z = ap (λ n. find_exchange n xs) (sym (eqb-true i id t)) ∙ f in
             again z now t refl x_is (and_right (r.status == 304) (is_some z.condition) v) refl
-            (p ∙ ap (option_map (exchange_forwarded_again i now)) x_is ∙ ap (λ b. Some (cond b (out_again now z) z)) (found-id i xs z f)) refl s
+            (p ∙ ap (option_map (exchange_after_second_forward i now)) x_is ∙ ap (λ b. Some (cond b (out_again now z) z)) (found-id i xs z f)) refl s
             )
         | inr n ↦ apart n (p ∙ other_out i now id (find_exchange id xs) n (λ z g. found-id id xs z g)
             ∙ sym (ap (λ k. overtaken_by (option_map scope_of_target_alone k) (find_exchange id xs)) (no_key z.asked r line bytes)))
       ]
   answers now i r z (Reply p) f s h = gone z (Answer now i r) (Reply p) f refl refl _ (
-      find-left_open (scope_invalidated_by_response (find_exchange i xs) r) i id xs
+      find-left_open (target_invalidated_by_response (find_exchange i xs) r) i id xs
       ∙ ap (λ k. cond (eqb i id) None (changed_by k (Some i) (find_exchange id xs)))
-      (ap (λ w. scope_invalidated_by_response w r) f ∙ ap (option_map scope_of_target_alone) (same_key_invalidated table es now z r next ∙ ap (key_taken_by_answer z.asked r) (sym h)))
+      (ap (λ w. target_invalidated_by_response w r) f ∙ ap (option_map scope_of_target_alone) (same_key_invalidated table es now z r next ∙ ap (key_taken_by_answer z.asked r) (sym h)))
       )
   answers now i r z (Waits leader) f s h = absurd (false≢true (ap is_either h ∙ answer_either table es now z r next (decision_of (policy_of table.lines z.line) es z.asked now)))
   answers now i r z Ended f s h = absurd (false≢true (ap is_either h ∙ answer_either table es now z r next (decision_of (policy_of table.lines z.line) es z.asked now)))
@@ -374,43 +374,43 @@ module _ (table : Table) (es : List Stored) (xs : List Exchange) (next : Option 
 
   -- what waited and is woken
   wakes_up : (now i : ℕ) (z : Exchange) (o : Outcome) (d : Decision) → decision_of (policy_of table.lines z.line) es z.asked now ≡ d → find_exchange i xs ≡ Some z → is_released z.stage ≡ true →
-      o ≡ outcome_of_wake table es now z d → Move id (Some z) (Wake now i) o (find_exchange id xs) (find_exchange id (open_exchanges_after table es xs (Wake now i) o))
+      o ≡ outcome_of_wake table es now z d → Move id (Some z) (Wake now i) o (find_exchange id xs) (find_exchange id (open_exchanges_after_event table es xs (Wake now i) o))
   wakes_up now i z o (decision.Hit serial) d_is f s h =
-      subst (λ (o : Outcome). Move id (Some z) (Wake now i) o (find_exchange id xs) (find_exchange id (open_exchanges_after table es xs (Wake now i) o))) (sym h)
+      subst (λ (o : Outcome). Move id (Some z) (Wake now i) o (find_exchange id xs) (find_exchange id (open_exchanges_after_event table es xs (Wake now i) o))) (sym h)
       (gone z (Wake now i) (outcome_of_wake table es now z (decision.Hit serial)) f refl refl _ (find-closed i id xs))
   wakes_up now i z o (decision.Forward rule against) d_is f s h =
-      subst (λ (o : Outcome). Move id (Some z) (Wake now i) o (find_exchange id xs) (find_exchange id (open_exchanges_after table es xs (Wake now i) o))) (sym h)
+      subst (λ (o : Outcome). Move id (Some z) (Wake now i) o (find_exchange id xs) (find_exchange id (open_exchanges_after_event table es xs (Wake now i) o))) (sym h)
       (by_id (ap (λ (w : Option Exchange). find_exchange id (exchanges_after_wake table es i now w xs)) f ∙ find-map out (sent_out-id i now q n c) id xs))
     where
       q : ReuseRule
       q = rule_of_decision (decision_of (policy_of table.lines z.line) es z.asked now)
 
       n : Option ℕ
-      n = serial_named_by_decision (decision_of (policy_of table.lines z.line) es z.asked now)
+      n = serial_named_by_rule_of_decision (decision_of (policy_of table.lines z.line) es z.asked now)
 
       c : Option Condition
-      c = condition_about_serial es (serial_named_by_decision (decision_of (policy_of table.lines z.line) es z.asked now))
+      c = condition_to_revalidate_serial es (serial_named_by_rule_of_decision (decision_of (policy_of table.lines z.line) es z.asked now))
 
       out : Exchange → Exchange
-      out x = exchange_sent_forward i now q n c x
+      out x = exchange_sent_forward_if_of_id i now q n c x
 
       o' : Outcome
       o' = outcome_of_wake table es now z (decision.Forward rule against)
 
-      by_id : find_exchange id (exchanges_after_wake table es i now (find_exchange i xs) xs) ≡ option_map (exchange_sent_forward i now q n c) (find_exchange id xs) →
+      by_id : find_exchange id (exchanges_after_wake table es i now (find_exchange i xs) xs) ≡ option_map (exchange_sent_forward_if_of_id i now q n c) (find_exchange id xs) →
           Move id (Some z) (Wake now i) (outcome_of_wake table es now z (decision.Forward rule against)) (find_exchange id xs) (find_exchange id (exchanges_after_wake table es i now (find_exchange i xs) xs))
       by_id p = elim (cases_Bool (eqb i id)) [
         | inl t ↦ (
             let same = eqb-true i id t in
             let x_is : find_exchange id xs ≡ Some z = ap (λ k. find_exchange k xs) (sym same) ∙ f in
             wakes table es z now (ap (λ k. Wake now k) same) x_is s refl
-            (p ∙ ap (option_map (exchange_sent_forward i now q n c)) x_is ∙ ap (λ b. Some (cond b (exchange_gone_forward now q n c z) z)) (found-id i xs z f))
+            (p ∙ ap (option_map (exchange_sent_forward_if_of_id i now q n c)) x_is ∙ ap (λ b. Some (cond b (exchange_gone_forward now q n c z) z)) (found-id i xs z f))
             )
         | inr off ↦ apart off (p ∙ other_sent i now q n c id (find_exchange id xs) off (λ y g. found-id id xs y g))
       ]
 
   -- whose client went away: another that waited for it may wait for the next leader
-  abandons_another : (i : ℕ) (w : Exchange) (next : Option NextLeader) (x : Option Exchange) → eqb i id ≡ false → (y : Option Exchange) → y ≡ option_map (after_abandon table next i) x → Move id (Some w) (Abandon i) Ended x y
+  abandons_another : (i : ℕ) (w : Exchange) (next : Option NextLeader) (x : Option Exchange) → eqb i id ≡ false → (y : Option Exchange) → y ≡ option_map (waiter_after_abandon table next i) x → Move id (Some w) (Abandon i) Ended x y
   abandons_another i w next None n y h = apart n h
   abandons_another i w next (Some z) n y h = by_wait (waits_for i z.stage) refl
     where
@@ -428,28 +428,28 @@ module _ (table : Table) (es : List Stored) (xs : List Exchange) (next : Option 
       let p = find-abandoned table i id xs in
       subst (λ (o : Outcome). Move id (Some w) (Abandon i) o (find_exchange id xs) (find_exchange id (exchanges_after_abandon table i xs))) (sym h)
       (elim (cases_Bool (eqb i id)) [
-        | inl t ↦ closes w t refl (ap (λ n. find_exchange n xs) (sym (eqb-true i id t)) ∙ f) refl (p ∙ ap (λ b. cond b None (option_map (after_abandon table next i) (find_exchange id xs))) t)
-        | inr n ↦ abandons_another i w next (find_exchange id xs) n _ (p ∙ ap (λ b. cond b None (option_map (after_abandon table next i) (find_exchange id xs))) n)
+        | inl t ↦ closes w t refl (ap (λ n. find_exchange n xs) (sym (eqb-true i id t)) ∙ f) refl (p ∙ ap (λ b. cond b None (option_map (waiter_after_abandon table next i) (find_exchange id xs))) t)
+        | inr n ↦ abandons_another i w next (find_exchange id xs) n _ (p ∙ ap (λ b. cond b None (option_map (waiter_after_abandon table next i) (find_exchange id xs))) n)
       ])
 
   -- who has waited as long as it is to wait
   goes_over : (i : ℕ) (z : Exchange) (o : Outcome) → find_exchange i xs ≡ Some z → is_waiting z.stage ≡ true → o ≡ WaitsNoMore →
-      Move id (Some z) (Overdue i) o (find_exchange id xs) (find_exchange id (map (overdue_exchange i) xs))
+      Move id (Some z) (Overdue i) o (find_exchange id xs) (find_exchange id (map (exchange_after_wait_timeout i) xs))
   goes_over i z o f s h =
-      let p = find-map (overdue_exchange i) (overdue-id i) id xs in
-      subst (λ (o : Outcome). Move id (Some z) (Overdue i) o (find_exchange id xs) (find_exchange id (map (overdue_exchange i) xs))) (sym h)
+      let p = find-map (exchange_after_wait_timeout i) (overdue-id i) id xs in
+      subst (λ (o : Outcome). Move id (Some z) (Overdue i) o (find_exchange id xs) (find_exchange id (map (exchange_after_wait_timeout i) xs))) (sym h)
       (elim (cases_Bool (eqb i id)) [
         | inl t ↦ (
             let same = eqb-true i id t in
             let x_is : find_exchange id xs ≡ Some z = ap (λ k. find_exchange k xs) (sym same) ∙ f in
             lapses z (ap (λ k. Overdue k) same) x_is s refl
-            (p ∙ ap (option_map (overdue_exchange i)) x_is ∙ ap (λ b. Some (cond b (exchange_released_by_timeout z) z)) (ap (λ b. b && is_waiting z.stage) (found-id i xs z f) ∙ s))
+            (p ∙ ap (option_map (exchange_after_wait_timeout i)) x_is ∙ ap (λ b. Some (cond b (exchange_released_by_timeout z) z)) (ap (λ b. b && is_waiting z.stage) (found-id i xs z f) ∙ s))
             )
         | inr off ↦ apart off (p ∙ other_overdue i id (find_exchange id xs) off (λ y g. found-id id xs y g))
       ])
 
-  step : (event : Event) (o : Outcome) (w : Option Exchange) → find_exchange (exchange_id_of_event event) xs ≡ w → fault_at_exchange w event ≡ None → o ≡ outcome_for_exchange table es xs w next event →
-      Move id w event o (find_exchange id xs) (find_exchange id (open_exchanges_after table es xs event o))
+  step : (event : Event) (o : Outcome) (w : Option Exchange) → find_exchange (exchange_id_of_event event) xs ≡ w → fault_at_exchange w event ≡ None → o ≡ outcome_of_event_at_exchange table es xs w next event →
+      Move id w event o (find_exchange id xs) (find_exchange id (open_exchanges_after_event table es xs event o))
   step (Arrive now i asked) o None f a h = arrives now i asked o f
   step (Arrive now i asked) o (Some w) f a h = absurd (cc)
   step (Answer now i r) o None f a h = absurd (cc)

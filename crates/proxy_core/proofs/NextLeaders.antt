@@ -14,14 +14,14 @@ use Rattle.proxy_core.specs.declared.open.as_next_leader.NextLeader.{NextLeader}
 use Rattle.proxy_core.specs.declared.event.Event.{Event}
 use Rattle.proxy_core.specs.declared.event.Event.TheVariants.{Arrive, Answer, Fail, Wake, Abandon, Overdue}
 use Rattle.proxy_core.specs.Leading.{waits_for, has_authorization, bools_are_equal}
-use Rattle.proxy_core.specs.LeadingOn.{wait_is_limited, as_next_leader, first_waiter_to_lead, count_waiting, most_followers, next_leader, follows_next_leader, stage_after_leader, after_abandon, exchanges_without, exchanges_after_abandon, IsNextLeader}
+use Rattle.proxy_core.specs.LeadingOn.{wait_is_limited, as_next_leader, first_waiter_to_lead, count_waiting_for, most_followers_led_on, next_leader, follows_next_leader, stage_after_leader, waiter_after_abandon, exchanges_without, exchanges_after_abandon, IsNextLeader}
 use Rattle.proxy_core.specs.Outcomes.{find_exchange, exchange_id_of_event}
-use Rattle.proxy_core.specs.State.{open_exchanges_after, exchanges_after_close}
+use Rattle.proxy_core.specs.State.{open_exchanges_after_event, exchanges_after_end_and_release}
 use Rattle.proxy_core.specs.Starts.{StoreAtStart}
 use Rattle.proxy_core.specs.Traces.{Item}
 use Rattle.proxy_core.specs.Histories.{held_entries, open_exchanges}
 use Rattle.proxy_core.specs.Promises.{outcome_ends_exchange, is_arrival_event}
-use Rattle.proxy_core.specs.Waiting.{exchange_has_closed, is_overdue_event, request_wait_timed_out, stage_of_exchange, leader_of_stage, leader_after_abandon, leader_after_end, leader_after_item, leader_of_waiter, FirstWaiterBecomesLeader, NoWaiterLeadsWhereNoneMay, NoWaiterLeadsWhereWaitsAreUnlimited}
+use Rattle.proxy_core.specs.Waiting.{open_exchange_has_ended, is_overdue_event, request_wait_timed_out, stage_of_exchange, leader_of_stage, leader_after_abandon, leader_after_end, leader_of_waiter_after_item, leader_of_waiter, FirstWaiterBecomesLeader, NoWaiterLeadsWhereNoneMay, NoWaiterLeadsWhereWaitsAreUnlimited}
 use Rattle.proxy_core.proofs.ExchangeLists.{find-abandoned}
 use Rattle.proxy_core.proofs.Moves.{and_none}
 use Rattle.proxy_core.proofs.LedOn.{led_on-stage, led_on-others, next_is, next_in_words, follows_in_words, follows_by_words}
@@ -32,12 +32,12 @@ module _ (table : Table) (start : StoreAtStart) (leader id : ℕ) (item : Item) 
   abbrev next_of : Option NextLeader
   next_of = next_leader table leader (open_exchanges table start past)
 
-  after_it : find_exchange id (open_exchanges table start (item ∷ past)) ≡ Some (after_abandon table next_of leader x)
+  after_it : find_exchange id (open_exchanges table start (item ∷ past)) ≡ Some (waiter_after_abandon table next_of leader x)
   after_it =
-      ap (λ (v : Event). find_exchange id (open_exchanges_after table (held_entries table start past) (open_exchanges table start past) v item.outcome)) left
+      ap (λ (v : Event). find_exchange id (open_exchanges_after_event table (held_entries table start past) (open_exchanges table start past) v item.outcome)) left
       ∙ (find-abandoned table leader id (open_exchanges table start past)
-      ∙ (ap (λ b. cond b None (option_map (after_abandon table next_of leader) (find_exchange id (open_exchanges table start past)))) other
-      ∙ ap (option_map (after_abandon table next_of leader)) here))
+      ∙ (ap (λ b. cond b None (option_map (waiter_after_abandon table next_of leader) (find_exchange id (open_exchanges table start past)))) other
+      ∙ ap (option_map (waiter_after_abandon table next_of leader)) here))
 
   -- by the next leader
   pub stage_after : (next : Option NextLeader) → next_of ≡ next → waits_for leader x.stage ≡ true → stage_of_exchange (find_exchange id (open_exchanges table start (item ∷ past))) ≡ Some (stage_after_leader table next x)
@@ -84,14 +84,14 @@ module _ (table : Table) (no_end : (line : ℕ) → is_some (wait_timeout_of tab
       ∙ (ap (λ b. cond b (Some (as_next_leader x)) (first_waiter_to_lead table id xs)) (and_none (waits_for id x.stage)) ∙ none_first id xs)
 
   none_next : (id : ℕ) (xs : List Exchange) → next_leader table id xs ≡ None
-  none_next id xs = either (first_waiter_to_lead table id (exchanges_without id xs)) (none_first id (exchanges_without id xs)) (nat_le (count_waiting id xs) most_followers)
+  none_next id xs = either (first_waiter_to_lead table id (exchanges_without id xs)) (none_first id (exchanges_without id xs)) (nat_le (count_waiting_for id xs) most_followers_led_on)
     where
       either : (o : Option NextLeader) → o ≡ None → (b : Bool) → cond b o None ≡ None
       either o e true = e
       either o e false = refl
 
-  all_released : (id : ℕ) (xs : List Exchange) → exchanges_after_abandon table id xs ≡ exchanges_after_close id xs
-  all_released id xs = ap (λ (next : Option NextLeader). map (after_abandon table next id) (exchanges_without id xs)) (none_next id xs)
+  all_released : (id : ℕ) (xs : List Exchange) → exchanges_after_abandon table id xs ≡ exchanges_after_end_and_release id xs
+  all_released id xs = ap (λ (next : Option NextLeader). map (waiter_after_abandon table next id) (exchanges_without id xs)) (none_next id xs)
 
   none_followed : (xs : List Exchange) (id l : ℕ) → leader_after_abandon table xs id l ≡ None
   none_followed xs id l =
@@ -125,12 +125,12 @@ module _ (table : Table) (no_end : (line : ℕ) → is_some (wait_timeout_of tab
   joined f l false false true false h = h
   joined f l false false false false h = h
 
-  one_leader : (start : StoreAtStart) (id l : ℕ) (items past : List Item) → leader_of_waiter table start id l items past ≡ cond (exchange_has_closed l items || request_wait_timed_out id items) None (Some l)
+  one_leader : (start : StoreAtStart) (id l : ℕ) (items past : List Item) → leader_of_waiter table start id l items past ≡ cond (open_exchange_has_ended l items || request_wait_timed_out id items) None (Some l)
   one_leader start id l [] past = refl
   one_leader start id l (i ∷ items) past =
       let xs = open_exchanges table start (items ++ past) in
-      ap (option_and_then (λ m. leader_after_item table xs id m i)) (one_leader start id l items past)
-      ∙ joined (λ m. leader_after_item table xs id m i) l (eqb (exchange_id_of_event i.event) l && (not (is_arrival_event i.event) && outcome_ends_exchange i.outcome)) (exchange_has_closed l items)
+      ap (option_and_then (λ m. leader_of_waiter_after_item table xs id m i)) (one_leader start id l items past)
+      ∙ joined (λ m. leader_of_waiter_after_item table xs id m i) l (eqb (exchange_id_of_event i.event) l && (not (is_arrival_event i.event) && outcome_ends_exchange i.outcome)) (open_exchange_has_ended l items)
       (eqb (exchange_id_of_event i.event) id && is_overdue_event i.event) (request_wait_timed_out id items)
       (ap (λ (o : Option ℕ). cond (eqb (exchange_id_of_event i.event) id && is_overdue_event i.event) None (cond (eqb (exchange_id_of_event i.event) l && (not (is_arrival_event i.event) && outcome_ends_exchange i.outcome)) o (Some l))) (none_after xs id l i.event))
 

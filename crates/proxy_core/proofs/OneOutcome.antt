@@ -6,7 +6,7 @@ use Rattle.std.proofs.lemmas.Bool.{eqb-true, eq-eqb, false≢true}
 use Rattle.std.proofs.lemmas.Bool.Decides.{nat_tests}
 use Rattle.std.proofs.lemmas.Option.{same_Some}
 use Rattle.hx_policy.specs.declared.words.Policy.{Policy}
-use Rattle.hx_fields.specs.declared.limits.TheConstants.{END_OF_TIME}
+use Rattle.hx_fields.specs.declared.limits.TheConstants.{START_OF_YEAR_10000}
 use Rattle.hx_directives.specs.Occurrences.{occurrences_of}
 use Rattle.hx_framing.specs.declared.messages.Response.{Response}
 use Rattle.hx_hop.specs.declared.request_view.Asked.{Asked}
@@ -16,13 +16,13 @@ use Rattle.hx_allow.specs.Matching.{policy_of}
 use Rattle.proxy_core.specs.Allowing.{verdict_of_asked, is_purge_verdict, request_purges, exchanges_to_wait_for}
 use Rattle.hx_allow.specs.declared.verdicts.Verdict.{Verdict}
 use Rattle.hx_allow.specs.declared.verdicts.Verdict.TheVariants as verdict
-use Rattle.hx_allow.specs.declared.verdicts.RequestRoute.{RequestRoute}
+use Rattle.hx_allow.specs.declared.verdicts.RouteOverLine.{RouteOverLine}
 use Rattle.hx_store.specs.Stored.{Stored}
 use Rattle.hx_store.specs.Serials.{SerialsAreDistinct}
 use Rattle.hx_store.specs.Shelf.{serials}
 use Rattle.hx_reuse.specs.Rules.{decision_of}
 use Rattle.hx_reuse.specs.ChosenAndNamed.{IsLeastReuseRule, RuleOnChosenNamesItsSerial}
-use Rattle.hx_reuse.specs.ErrorRules.{error_rule_on}
+use Rattle.hx_reuse.specs.ErrorRules.{error_rule_against}
 use Rattle.hx_reuse.specs.declared.rule.ReuseRule.{ReuseRule}
 use Rattle.hx_reuse.specs.declared.rule.ErrorRule.{ErrorRule}
 use Rattle.hx_reuse.specs.declared.decision.Decision.{Decision}
@@ -34,7 +34,7 @@ use Rattle.hx_status.specs.declared.cause.FailKind.{FailKind}
 use Rattle.hx_status.specs.declared.cause.FailKind.TheVariants.{BadAnswer}
 use Rattle.hx_status.specs.declared.cause.Cause.TheVariants.{Denied, Looped, OnlyIfCached, Origin}
 use Rattle.proxy_core.specs.declared.open.exchange.Exchange.{Exchange}
-use Rattle.proxy_core.specs.declared.replies.stored_reply.CacheStatusInfo.{CacheStatusInfo}
+use Rattle.proxy_core.specs.declared.replies.stored_reply.StoredCacheStatusInfo.{StoredCacheStatusInfo}
 use Rattle.proxy_core.specs.declared.core_fault.CoreFault.TheVariants.{MomentTooLate, NotForwarded, NotReady, NotWaiting}
 use Rattle.proxy_core.specs.declared.outcome.Reply.{Reply}
 use Rattle.proxy_core.specs.declared.outcome.Outcome.{Outcome}
@@ -43,18 +43,18 @@ use Rattle.proxy_core.specs.declared.event.Event.{Event}
 use Rattle.proxy_core.specs.declared.event.Event.TheVariants.{Arrive, Answer, Fail, Wake, Abandon, Overdue}
 use Rattle.proxy_core.specs.Moments.{moment_too_late_fault}
 use Rattle.proxy_core.specs.Storing.{storing_rule_to_explain, is_304_without_condition}
-use Rattle.proxy_core.specs.Validating.{condition_about_serial, is_304_to_own_conditions, stored_response_validated}
+use Rattle.proxy_core.specs.Validating.{condition_to_revalidate_serial, is_304_to_own_conditions, stored_response_validated_by_304}
 use Rattle.proxy_core.specs.Replies.{stored_reply_text, passed_answer_text, refusal_reply_text, is_head}
 use Rattle.hx_status.specs.declared.about.StatusAndReason.{StatusAndReason}
-use Rattle.proxy_core.specs.Abouts.{about_by_outcome}
-use Rattle.proxy_core.specs.Outcomes.{hit_status_info, find_exchange, exchange_id_of_event, outcome_for_exchange, outcome_of_event, outcome_of_refusal, forwarded_status_info, forward_text, fault_else, fault_if_not_forwarded, fault_if_not_released, fault_at_exchange, step_fault}
-use Rattle.proxy_core.specs.State.{expired_by_outcome, outcome_purges, serial_stored_by_outcome, serial_used_by_outcome, serials_removed_by_outcome, stored_response_as_used, bounds_of}
-use Rattle.proxy_core.specs.Starts.{StoreAtStart, StartIsValid}
+use Rattle.proxy_core.specs.Abouts.{report_by_outcome}
+use Rattle.proxy_core.specs.Outcomes.{hit_status_info, find_exchange, exchange_id_of_event, outcome_of_event_at_exchange, outcome_of_event, outcome_of_refusal, sent_after_forward_status_info, forward_text, fault_else, fault_if_not_forwarded, fault_if_not_released, fault_at_exchange, step_fault}
+use Rattle.proxy_core.specs.State.{expired_serials_if_any, outcome_purges, serial_stored_by_outcome, serial_used_by_outcome, serials_removed_by_outcome, stored_response_freshened_by_event, bounds_of}
+use Rattle.proxy_core.specs.Starts.{StoreAtStart, StoreAtStartIsValid}
 use Rattle.proxy_core.specs.Traces.{Item}
 use Rattle.proxy_core.specs.Histories.{held_entries, open_exchanges, next_serial, IsGoodHistory}
-use Rattle.proxy_core.specs.Sending.{StoredResponseIsReusable, StoredResponseMayBeSent, RequestGoesForward, NoLeaderIsOpen, RequestWaitsForFirstLeader, RequestReachesCacheOrOrigin, RequestIsRefusedByTheTable, CacheStatusDetailAfterError, CacheStatusDetailAtAnswer, CacheStatusDetailAtArrival, CacheStatusIsExact, EventHasMomentAndRequest, ReplyIsTheStoredResponse}
+use Rattle.proxy_core.specs.Sending.{StoredResponseIsReusable, StoredResponseMayBeSent, RequestGoesForward, NoLeaderForRequestIsOpen, RequestWaitsForFirstLeader, RequestReachesCacheOrOrigin, RequestIsRefusedByTheTable, CacheStatusDetailAfterError, CacheStatusDetailAtAnswer, CacheStatusDetailAtArrival, CacheStatusIsExact, EventHasMomentAndRequest, ReplySendsTheStoredResponse}
 use Rattle.proxy_core.specs.GoingOn.{EventSuitsExchange, IsClientReply, ExchangeContinuesByEvent}
-use Rattle.proxy_core.specs.Naming.{AnswerNamesErrorRule, FailureAnswerNamesItsCause, AnswerNamesItsRule, AnswerNamesFirstRule}
+use Rattle.proxy_core.specs.Naming.{RuleOnChosenNamesErrorRule, FailureAnswerNamesItsCause, AnswerNamesItsRule, AnswerNamesFirstRule}
 use Rattle.proxy_core.specs.StoredAnswers.{OutcomeExpiresExactlyWhatItMust, OutcomeRemovesExactlyWhatItMust, event_purges}
 use Rattle.proxy_core.specs.Headline.{HoldsAtEachItem, ClientIsAnsweredAtTheNextStep, RequestReachesCacheOrOriginIffAllowed, StoredResponseIsSentExactlyWhereItMayBe, SentResponseIsTheStoredOne, AnswerNotFromStoreNamesFirstRule, AnswerIsStoredExactlyWhereItMayBe, StoredResponsesAreRemovedExactlyWhereTheyMustBe, ConnectionClosesAsAsked, OutcomeIsReportedTruthfully, Headline, AnswerHasFinalStatus, NoOtherTraceHasTheHeadline}
 use Rattle.proxy_core.proofs.FirstRules.{held_distinct}
@@ -76,15 +76,15 @@ not_entry {P} e h = absurd (cc)
 -- ---- rules
 
 module _ (policy : Policy) (es : List Stored) (asked : Asked) (now : ℕ) where
-  one_error : (rule : ReuseRule) (a b : Option ErrorRule) → AnswerNamesErrorRule policy es now asked rule a → AnswerNamesErrorRule policy es now asked rule b → a ≡ b
+  one_error : (rule : ReuseRule) (a b : Option ErrorRule) → RuleOnChosenNamesErrorRule policy es now asked rule a → RuleOnChosenNamesErrorRule policy es now asked rule b → a ≡ b
   one_error rule a b (inl m) (inl n) = m.1 ∙ sym n.1
   one_error rule a b (inl m) (inr n) = no_true (sym m.0 ∙ n.0)
   one_error rule a b (inr m) (inl n) = no_true (sym n.0 ∙ m.0)
   one_error rule a b (inr (late, (e, least, chosen, applies, is))) (inr (late2, (f, most, chosen2, stands2, is2))) =
       let same : e ≡ f = same_Some e f (sym chosen ∙ chosen2) in
-      let one : error_rule_on policy e (occurrences_of asked.fields) now ≡ Some least = named_on_error policy e (occurrences_of asked.fields) now least applies in
-      let other : error_rule_on policy f (occurrences_of asked.fields) now ≡ Some most = named_on_error policy f (occurrences_of asked.fields) now most stands2 in
-      is ∙ sym one ∙ ap (λ (x : Stored). error_rule_on policy x (occurrences_of asked.fields) now) same ∙ other ∙ sym is2
+      let one : error_rule_against policy e (occurrences_of asked.fields) now ≡ Some least = named_on_error policy e (occurrences_of asked.fields) now least applies in
+      let other : error_rule_against policy f (occurrences_of asked.fields) now ≡ Some most = named_on_error policy f (occurrences_of asked.fields) now most stands2 in
+      is ∙ sym one ∙ ap (λ (x : Stored). error_rule_against policy x (occurrences_of asked.fields) now) same ∙ other ∙ sym is2
 
   -- a held response may be reused or not
   reusable_or_not : SerialsAreDistinct (serials es) → (s : ℕ) → StoredResponseIsReusable policy es asked now s ⊎ (StoredResponseIsReusable policy es asked now s → ⊥)
@@ -112,11 +112,11 @@ module _ (policy : Policy) (es : List Stored) (asked : Asked) (now : ℕ) where
 
 -- ---- outcomes of a request that arrives
 
-forward_same : (table : Table) (es : List Stored) (asked : Asked) (now : ℕ) (line : RequestRoute) (a b : ReuseRule) (o p : Outcome) → RequestGoesForward table es asked now line a o → RequestGoesForward table es asked now line b p → o ≡ p
+forward_same : (table : Table) (es : List Stored) (asked : Asked) (now : ℕ) (line : RouteOverLine) (a b : ReuseRule) (o p : Outcome) → RequestGoesForward table es asked now line a o → RequestGoesForward table es asked now line b p → o ≡ p
 forward_same table es asked now line a b o p m n =
     let rule : a ≡ b = one_rule (policy_of table.lines line) es asked now a b m.is_least n.is_least in
     let against : m.against ≡ n.against = one_named (policy_of table.lines line) es asked now b m.against n.against (subst (λ r. RuleOnChosenNamesItsSerial es asked r m.against) rule m.names) n.names in
-    m.outcome_is ∙ ap (λ c. Forward line (forward_text table line asked (condition_about_serial es c))) against ∙ sym n.outcome_is
+    m.outcome_is ∙ ap (λ c. Forward line (forward_text table line asked (condition_to_revalidate_serial es c))) against ∙ sym n.outcome_is
 
 module _ (table : Table) (es : List Stored) (distinct : SerialsAreDistinct (serials es)) (xs : List Exchange) (now : ℕ) (asked : Asked) where
   turned_same : (o p : Outcome) → RequestIsRefusedByTheTable table now asked o → RequestIsRefusedByTheTable table now asked p → o ≡ p
@@ -136,14 +136,14 @@ module _ (table : Table) (es : List Stored) (distinct : SerialsAreDistinct (seri
       let lines : line ≡ other = cc in
       m ∙ ap (λ l. outcome_of_refusal now (Looped l) asked) lines ∙ sym n
 
-  module _ (line : RequestRoute) (o p : Outcome) (unused : serial_used_by_outcome o ≡ None) (other_unused : serial_used_by_outcome p ≡ None) where
-    meets : (rule : ReuseRule) → IsLeastReuseRule (policy_of table.lines line) es asked now rule → NoLeaderIsOpen (policy_of table.lines line) es (exchanges_to_wait_for table line asked xs) asked now → RequestWaitsForFirstLeader table es xs now asked line p → {P : Type 0} → P
+  module _ (line : RouteOverLine) (o p : Outcome) (unused : serial_used_by_outcome o ≡ None) (other_unused : serial_used_by_outcome p ≡ None) where
+    meets : (rule : ReuseRule) → IsLeastReuseRule (policy_of table.lines line) es asked now rule → NoLeaderForRequestIsOpen (policy_of table.lines line) es (exchanges_to_wait_for table line asked xs) asked now → RequestWaitsForFirstLeader table es xs now asked line p → {P : Type 0} → P
     meets rule least nobody w =
         never_one w.leader
         (sym (leads_for_none (policy_of table.lines line) es distinct (exchanges_to_wait_for table line asked xs) asked now rule least nobody)
         ∙ leads_for (policy_of table.lines line) es distinct (exchanges_to_wait_for table line asked xs) asked now rule least w.awaited w.leader w.awaits w.first_leads)
 
-  reached_same : (line : RequestRoute) (o p : Outcome) → serial_used_by_outcome o ≡ None → serial_used_by_outcome p ≡ None → RequestReachesCacheOrOrigin table es xs now asked line o → RequestReachesCacheOrOrigin table es xs now asked line p → o ≡ p
+  reached_same : (line : RouteOverLine) (o p : Outcome) → serial_used_by_outcome o ≡ None → serial_used_by_outcome p ≡ None → RequestReachesCacheOrOrigin table es xs now asked line o → RequestReachesCacheOrOrigin table es xs now asked line p → o ≡ p
   reached_same line o p u v (inl (s, used)) h = never_one s (sym u ∙ used)
   reached_same line o p u v (inr a) (inl (s, used)) = never_one s (sym v ∙ used)
   reached_same line o p u v (inr (inl (a, m, others, nobody))) (inr (inl (b, n, others2, nobody2))) = forward_same table es asked now line a b o p m n
@@ -175,19 +175,19 @@ about_same None (Wake t id) m n a b h k = absurd h
 about_same x (Abandon id) m n a b h k = absurd h
 about_same x (Overdue id) m n a b h k = absurd h
 
-same_line : (a b : RequestRoute) → verdict.Allowed a ≡ verdict.Allowed b → a ≡ b
+same_line : (a b : RouteOverLine) → verdict.Allowed a ≡ verdict.Allowed b → a ≡ b
 same_line a b h = cc
 
 module _ (table : Table) (es : List Stored) (distinct : SerialsAreDistinct (serials es)) where
   at_answer : (x : Exchange) (now : ℕ) (r : Response) (s : ℕ) (a b : Option Detail) →
       CacheStatusDetailAtAnswer (policy_of table.lines x.line) es x now r s a → CacheStatusDetailAtAnswer (policy_of table.lines x.line) es x now r s b → a ≡ b
-  at_answer x now r s a b v w = by_entry (stored_response_validated es x r now) refl
+  at_answer x now r s a b v w = by_entry (stored_response_validated_by_304 es x r now) refl
     where
-      by_validation : stored_response_validated es x r now ≡ None → (t : Bool) → is_304_to_own_conditions x r ≡ t → a ≡ b
+      by_validation : stored_response_validated_by_304 es x r now ≡ None → (t : Bool) → is_304_to_own_conditions x r ≡ t → a ≡ b
       by_validation none true k = v.1 k none ∙ sym (w.1 k none)
       by_validation none false k = one_word (policy_of table.lines x.line) es x.asked now distinct s a b (v.2 k) (w.2 k)
 
-      by_entry : (o : Option Stored) → stored_response_validated es x r now ≡ o → a ≡ b
+      by_entry : (o : Option Stored) → stored_response_validated_by_304 es x r now ≡ o → a ≡ b
       by_entry (Some e) k = v.0 (ap is_some k) ∙ sym (w.0 (ap is_some k))
       by_entry None k = by_validation k (is_304_to_own_conditions x r) refl
 
@@ -198,7 +198,7 @@ module _ (table : Table) (es : List Stored) (distinct : SerialsAreDistinct (seri
       by_test (inl may) = v.0 may ∙ sym (w.0 may)
       by_test (inr never) = v.1 never ∙ sym (w.1 never)
 
-  how_same : (x : Option Exchange) (event : Event) (s : ℕ) (h k : CacheStatusInfo) → CacheStatusIsExact table es x event s h → CacheStatusIsExact table es x event s k → h ≡ k
+  how_same : (x : Option Exchange) (event : Event) (s : ℕ) (h k : StoredCacheStatusInfo) → CacheStatusIsExact table es x event s h → CacheStatusIsExact table es x event s k → h ≡ k
   how_same x (Arrive now id asked) s h k (n, v, (d, is, word)) (m, w, (e, is2, word2)) =
       let same : n ≡ m = same_line n m (sym v ∙ w) in
       is ∙ ap (λ l. record (hit_status_info (policy_of table.lines l)) { detail = d }) same
@@ -206,26 +206,26 @@ module _ (table : Table) (es : List Stored) (distinct : SerialsAreDistinct (seri
       (at_arrival (policy_of table.lines m) asked now s d e (subst (λ l. CacheStatusDetailAtArrival (policy_of table.lines l) es asked now s d) same word) word2)
       ∙ sym is2
   how_same (Some x) (Answer now id r) s h k (d, is, word) (e, is2, word2) =
-      is ∙ ap (forwarded_status_info (policy_of table.lines x.line) x (Some r.status)) (at_answer x now r s d e word word2) ∙ sym is2
+      is ∙ ap (sent_after_forward_status_info (policy_of table.lines x.line) x (Some r.status)) (at_answer x now r s d e word word2) ∙ sym is2
   how_same None (Answer now id r) s h k a b = absurd a
   how_same (Some x) (Fail now id kind) s h k (d, is, word) (e, is2, word2) =
-      is ∙ ap (forwarded_status_info (policy_of table.lines x.line) x None) (one_word (policy_of table.lines x.line) es x.asked now distinct s d e word word2) ∙ sym is2
+      is ∙ ap (sent_after_forward_status_info (policy_of table.lines x.line) x None) (one_word (policy_of table.lines x.line) es x.asked now distinct s d e word word2) ∙ sym is2
   how_same None (Fail now id kind) s h k a b = absurd a
   how_same (Some x) (Wake now id) s h k a b = a ∙ sym b
   how_same None (Wake now id) s h k a b = absurd a
   how_same x (Abandon id) s h k a b = absurd a
   how_same x (Overdue id) s h k a b = absurd a
 
-  bytes_same : (x : Option Exchange) (event : Event) (o p : Outcome) (s : ℕ) (a : ReplyIsTheStoredResponse table es x event o s) (b : ReplyIsTheStoredResponse table es x event p s) → a.reply.bytes ≡ b.reply.bytes
+  bytes_same : (x : Option Exchange) (event : Event) (o p : Outcome) (s : ℕ) (a : ReplySendsTheStoredResponse table es x event o s) (b : ReplySendsTheStoredResponse table es x event p s) → a.reply.bytes ≡ b.reply.bytes
   bytes_same x event o p s a b =
       let about = about_same x event a.now b.now a.asked b.asked a.about b.about in
       let info = how_same x event s a.info b.info a.cache_status_matches b.cache_status_matches in
       let response = same_Some a.response b.response (sym a.is_held ∙ b.is_held) in
       a.bytes_are
-      ∙ ap (λ e. stored_reply_text table.name (stored_response_as_used x event e) a.now a.info a.asked) response
-      ∙ ap (λ n. stored_reply_text table.name (stored_response_as_used x event b.response) n a.info a.asked) about.0
-      ∙ ap (λ i. stored_reply_text table.name (stored_response_as_used x event b.response) b.now i a.asked) info
-      ∙ ap (λ q. stored_reply_text table.name (stored_response_as_used x event b.response) b.now b.info q) about.1
+      ∙ ap (λ e. stored_reply_text table.name (stored_response_freshened_by_event x event e) a.now a.info a.asked) response
+      ∙ ap (λ n. stored_reply_text table.name (stored_response_freshened_by_event x event b.response) n a.info a.asked) about.0
+      ∙ ap (λ i. stored_reply_text table.name (stored_response_freshened_by_event x event b.response) b.now i a.asked) info
+      ∙ ap (λ q. stored_reply_text table.name (stored_response_freshened_by_event x event b.response) b.now b.info q) about.1
       ∙ sym b.bytes_are
 
 -- ---- replies
@@ -252,7 +252,7 @@ removed_same table es x (Wake now id) a b stored used = refl
 removed_same table es x (Abandon id) a b stored used = refl
 removed_same table es x (Overdue id) a b stored used = refl
 
-expired_same : (table : Table) (es : List Stored) (event : Event) (o p : Outcome) → OutcomeExpiresExactlyWhatItMust table es event o → OutcomeExpiresExactlyWhatItMust table es event p → expired_by_outcome o ≡ expired_by_outcome p
+expired_same : (table : Table) (es : List Stored) (event : Event) (o p : Outcome) → OutcomeExpiresExactlyWhatItMust table es event o → OutcomeExpiresExactlyWhatItMust table es event p → expired_serials_if_any o ≡ expired_serials_if_any p
 expired_same table es (Arrive now id asked) o p a b = a ∙ sym b
 expired_same table es (Answer now id r) o p a b = a ∙ sym b
 expired_same table es (Fail now id kind) o p a b = a ∙ sym b
@@ -264,7 +264,7 @@ expired_same table es (Overdue id) o p a b = a ∙ sym b
 record Fits (table : Table) (start : StoreAtStart) (first : ℕ) (past : List Item) (x : Option Exchange) (event : Event) (o : Outcome) : Type 0 where
   goes_on : ExchangeContinuesByEvent table (held_entries table start past) x event o
   sends : (s : ℕ) → (StoredResponseMayBeSent table (held_entries table start past) (open_exchanges table start past) x event s → serial_used_by_outcome o ≡ Some s) × (serial_used_by_outcome o ≡ Some s → StoredResponseMayBeSent table (held_entries table start past) (open_exchanges table start past) x event s)
-  that : (s : ℕ) → serial_used_by_outcome o ≡ Some s → ReplyIsTheStoredResponse table (held_entries table start past) x event o s
+  that : (s : ℕ) → serial_used_by_outcome o ≡ Some s → ReplySendsTheStoredResponse table (held_entries table start past) x event o s
   names : AnswerNamesFirstRule table start past (next_serial first past) x event o
   removes : OutcomeRemovesExactlyWhatItMust table (held_entries table start past) x event o
   purges : outcome_purges o ≡ event_purges table event
@@ -272,7 +272,7 @@ record Fits (table : Table) (start : StoreAtStart) (first : ℕ) (past : List It
   reaches : RequestReachesCacheOrOriginIffAllowed table start (record { event = event; outcome = o }) past
   stores : AnswerIsStoredExactlyWhereItMayBe table start first (record { event = event; outcome = o }) past
   closes : ConnectionClosesAsAsked (record { event = event; outcome = o }) past
-  tells : about_by_outcome o ≡ about_by_outcome (outcome_for_exchange table (held_entries table start past) (open_exchanges table start past) x (next_serial first past) event)
+  tells : report_by_outcome o ≡ report_by_outcome (outcome_of_event_at_exchange table (held_entries table start past) (open_exchanges table start past) x (next_serial first past) event)
 
 module _ (table : Table) (start : StoreAtStart) (first : ℕ) (past : List Item) (distinct : SerialsAreDistinct (serials (held_entries table start past))) where
   abbrev es : List Stored
@@ -314,8 +314,8 @@ module _ (table : Table) (start : StoreAtStart) (first : ℕ) (past : List Item)
         sym (ap serials_removed_by_outcome h) ∙ removed_by_words table es x event o a.removes ∙ ap (serials_removed_at table es x event) h ∙ removed_same table es x event m n stored used ∙ sym (ap (serials_removed_at table es x event) k) ∙ sym (removed_by_words table es x event p b.removes) ∙ ap serials_removed_by_outcome k
         in
         let purged : m.purged ≡ n.purged = sym (ap outcome_purges h) ∙ a.purges ∙ sym b.purges ∙ ap outcome_purges k in
-        let expired : m.expired ≡ n.expired = sym (ap expired_by_outcome h) ∙ expired_same table es event o p a.expires b.expires ∙ ap expired_by_outcome k in
-        let about : m.about ≡ n.about = same_Some m.about n.about (sym (ap about_by_outcome h) ∙ a.tells ∙ sym b.tells ∙ ap about_by_outcome k) in
+        let expired : m.expired ≡ n.expired = sym (ap expired_serials_if_any h) ∙ expired_same table es event o p a.expires b.expires ∙ ap expired_serials_if_any k in
+        let about : m.about ≡ n.about = same_Some m.about n.about (sym (ap report_by_outcome h) ∙ a.tells ∙ sym b.tells ∙ ap report_by_outcome k) in
         h ∙ ap (λ (r : Reply). ReplyData r) (reply_same m n bytes close about stored used removed expired purged) ∙ sym k
 
     both_send : (s : ℕ) → serial_used_by_outcome o ≡ Some s → o ≡ p
@@ -332,7 +332,7 @@ module _ (table : Table) (start : StoreAtStart) (first : ℕ) (past : List Item)
   on_error_same : (x : Exchange) (now : ℕ) (kind : FailKind) (m n : List ℕ) → FailureAnswerNamesItsCause table es now x kind m → FailureAnswerNamesItsCause table es now x kind n → m ≡ n
   on_error_same x now kind m n (q, error, least, names, is) (r, error2, least2, names2, is2) =
       let rule : q ≡ r = one_rule (policy_of table.lines x.line) es x.asked now q r least least2 in
-      let same : error ≡ error2 = one_error (policy_of table.lines x.line) es x.asked now r error error2 (subst (λ z. AnswerNamesErrorRule (policy_of table.lines x.line) es now x.asked z error) rule names) names2 in
+      let same : error ≡ error2 = one_error (policy_of table.lines x.line) es x.asked now r error error2 (subst (λ z. RuleOnChosenNamesErrorRule (policy_of table.lines x.line) es now x.asked z error) rule names) names2 in
       is ∙ ap (λ z. refusal_reply_text (date_text_of now) (Origin kind z error) x.asked.close (is_head x.asked)) rule
       ∙ ap (λ z. refusal_reply_text (date_text_of now) (Origin kind r z) x.asked.close (is_head x.asked)) same ∙ sym is2
 
@@ -340,7 +340,7 @@ module _ (table : Table) (start : StoreAtStart) (first : ℕ) (past : List Item)
     arrival_same : (x : Option Exchange) (now id : ℕ) (asked : Asked) → Fits table start first past x (Arrive now id asked) o → Fits table start first past x (Arrive now id asked) p → o ≡ p
     arrival_same x now id asked a b = by_verdict (verdict_of_asked table asked) refl
       where
-        turned : ((line : RequestRoute) → verdict_of_asked table asked ≢ verdict.Allowed line) → request_purges table asked ≡ false → o ≡ p
+        turned : ((line : RouteOverLine) → verdict_of_asked table asked ≢ verdict.Allowed line) → request_purges table asked ≡ false → o ≡ p
         turned none isnt = turned_same table es distinct (open_exchanges table start past) now asked o p ((a.reaches now id asked refl).1.1 none isnt) ((b.reaches now id asked refl).1.1 none isnt)
 
         by_verdict : (v : Verdict) → verdict_of_asked table asked ≡ v → o ≡ p
@@ -415,10 +415,10 @@ module _ (table : Table) (start : StoreAtStart) (first : ℕ) (past : List Item)
 
 -- ---- when an event may come
 
-on_time : (now : ℕ) → now < END_OF_TIME → moment_too_late_fault now ≡ None
-on_time now h = by_test (ltb now END_OF_TIME) refl
+on_time : (now : ℕ) → now < START_OF_YEAR_10000 → moment_too_late_fault now ≡ None
+on_time now h = by_test (ltb now START_OF_YEAR_10000) refl
   where
-    by_test : (b : Bool) → ltb now END_OF_TIME ≡ b → cond b None (Some MomentTooLate) ≡ None
+    by_test : (b : Bool) → ltb now START_OF_YEAR_10000 ≡ b → cond b None (Some MomentTooLate) ≡ None
     by_test true k = refl
     by_test false k = absurd (no_true (grind (arith, nat_tests, h, k)))
 
@@ -456,7 +456,7 @@ module _ (table : Table) (start : StoreAtStart) (first : ℕ) where
 
   -- the steps alone
   record EachFits (trace : List Item) : Type 0 where
-    begins : StartIsValid (bounds_of table start.limit) (Some first) start.entries
+    begins : StoreAtStartIsValid (bounds_of table start.limit) (Some first) start.entries
     comes : HoldsAtEachItem (λ item past. EventSuitsExchange (find_exchange (exchange_id_of_event item.event) (open_exchanges table start past)) item.event) trace
     fit : HoldsAtEachItem (λ item past. Fits table start first past (find_exchange (exchange_id_of_event item.event) (open_exchanges table start past)) item.event item.outcome) trace
     final : HoldsAtEachItem AnswerHasFinalStatus trace

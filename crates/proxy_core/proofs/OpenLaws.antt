@@ -4,7 +4,7 @@ use Rattle.std.proofs.lemmas.Bool.{eq-eqb, false≢true}
 use Rattle.hx_hop.specs.declared.request_view.Asked.{Asked}
 use Rattle.hx_allow.specs.TableLines.{Table}
 use Rattle.hx_allow.specs.Matching.{policy_of}
-use Rattle.hx_allow.specs.declared.verdicts.RequestRoute.{RequestRoute}
+use Rattle.hx_allow.specs.declared.verdicts.RouteOverLine.{RouteOverLine}
 use Rattle.proxy_core.specs.Allowing.{verdict_of_asked}
 use Rattle.hx_store.specs.Stored.{Stored}
 use Rattle.hx_reuse.specs.Rules.{decision_of}
@@ -18,13 +18,13 @@ use Rattle.proxy_core.specs.Outcomes.{find_exchange, exchange_id_of_event, fault
 use Rattle.proxy_core.specs.declared.open.stage.Stage.TheVariants.{Released}
 use Rattle.proxy_core.specs.Leading.{waits_for}
 use Rattle.proxy_core.specs.Scopes.{Scope, key_is_in_scope}
-use Rattle.proxy_core.specs.State.{State, scope_purged, released_exchange, overtaken_exchange, forwarded_exchange, waiting_exchange, line_of_verdict, rule_of_decision, open_exchanges_after}
+use Rattle.proxy_core.specs.State.{State, scope_purged, exchange_released_from_leader, exchange_overtaken_if_in_scope, forwarded_exchange, exchange_begun_waiting, line_of_verdict, rule_of_decision, open_exchanges_after_event}
 use Rattle.proxy_core.specs.Starts.{StoreAtStart}
-use Rattle.proxy_core.specs.Traces.{Item, initial_state, state_after_trace, IsGood}
+use Rattle.proxy_core.specs.Traces.{Item, initial_state, state_after_trace, TraceIsGood}
 use Rattle.proxy_core.specs.Histories.{held_entries, open_exchanges}
-use Rattle.proxy_core.specs.Promises.{outcome_goes_forward, outcome_ends_exchange, is_arrival_event, NoRequestArrives}
+use Rattle.proxy_core.specs.Promises.{outcome_goes_forward, outcome_ends_exchange, is_arrival_event, NoRequestOfIdArrives}
 use Rattle.proxy_core.specs.Carrying.{is_arrival_or_wake, NoItemJudgesTheRequest}
-use Rattle.proxy_core.specs.TraceMeaning.{exchange_has_ended, opens_an_exchange, ExchangeIsOpenFromArrivalToEnd, ExchangeOpensByArrivalAlone, OpenExchangeHasItsRequest, OpenExchangeKeepsItsRule, ExchangeIsOvertakenWhereInvalidated}
+use Rattle.proxy_core.specs.TraceMeaning.{exchange_has_ended, outcome_opens_exchange, ExchangeIsOpenFromArrivalToEnd, ExchangeOpensByArrivalAlone, OpenExchangeHasItsRequest, OpenExchangeKeepsItsRule, ExchangeIsOvertakenWhereInvalidated}
 use Rattle.proxy_core.proofs.ExchangeLists.{overtaken_by, released_by, changed_by, find-push, find-purged, none_overtaken}
 use Rattle.proxy_core.proofs.Moves.{Move, apart, opens, queues, passes, again, wakes, closes, turns, lapses, asked_of, ended_by, forward_goes_on, move_of, and_none, key_taken_by_step}
 use Rattle.proxy_core.proofs.Tracing.{same_table}
@@ -70,17 +70,17 @@ open_step id w event o x y b e (lapses z ev x_is s f h) a i =
     ∙ sym (ap (λ c. b && not (c || e)) (ap (λ (o : Outcome). eqb (exchange_id_of_event event) id && outcome_ends_exchange o) f ∙ and_none (eqb (exchange_id_of_event event) id)))
 
 open_first : (id : ℕ) (w : Option Exchange) (event : Event) (o : Outcome) (x y : Option Exchange) → Move id w event o x y →
-    eqb (exchange_id_of_event event) id ≡ true → is_arrival_event event ≡ true → is_some y ≡ (opens_an_exchange o && true)
+    eqb (exchange_id_of_event event) id ≡ true → is_arrival_event event ≡ true → is_some y ≡ (outcome_opens_exchange o && true)
 open_first id w event o x y (apart n h) t a = absurd (false≢true (sym n ∙ t))
 open_first id w event o x y (opens table es now asked line ev x_is f h) t a = ap is_some h ∙ sym (ap (λ b. b && true) (forward_starts o f))
   where
-    forward_starts : (o : Outcome) → outcome_goes_forward o ≡ true → opens_an_exchange o ≡ true
+    forward_starts : (o : Outcome) → outcome_goes_forward o ≡ true → outcome_opens_exchange o ≡ true
     forward_starts (Reply r) h = absurd (false≢true h)
     forward_starts (Forward line bytes) h = refl
     forward_starts (Waits leader) h = refl
     forward_starts Ended h = absurd (false≢true h)
     forward_starts WaitsNoMore h = absurd (false≢true h)
-open_first id w event o x y (queues table es now asked line leader ev x_is f l h) t a = ap is_some h ∙ sym (ap (λ (o : Outcome). opens_an_exchange o && true) f)
+open_first id w event o x y (queues table es now asked line leader ev x_is f l h) t a = ap is_some h ∙ sym (ap (λ (o : Outcome). outcome_opens_exchange o && true) f)
 open_first id w event o x y (passes u ev x_is f h) t a = ap is_some h ∙ sym (ap (λ b. b && true) f)
 open_first id w event o x y (again z now u ev x_is c f h j s) t a = absurd (false≢true (sym ev ∙ a))
 open_first id w event o x y (wakes table es z now ev x_is s f h) t a = absurd (false≢true (sym (ap is_arrival_event ev) ∙ a))
@@ -89,11 +89,11 @@ open_first id w event o x y (turns z j m ev n x_is s f h) t a = absurd (false≢
 open_first id w event o x y (lapses z ev x_is s f h) t a = absurd (false≢true (sym (ap is_arrival_event ev) ∙ a))
 
 module _ (start : State) (before : List Item) (arrival : Item) where
-  open_plain : (items : List Item) → IsGood start (items ++ arrival ∷ before) → is_arrival_event arrival.event ≡ true → NoRequestArrives (exchange_id_of_event arrival.event) items →
-      is_some (find_exchange (exchange_id_of_event arrival.event) (state_after_trace start (items ++ arrival ∷ before)).exchanges) ≡ (opens_an_exchange arrival.outcome && not (exchange_has_ended (exchange_id_of_event arrival.event) items))
+  open_plain : (items : List Item) → TraceIsGood start (items ++ arrival ∷ before) → is_arrival_event arrival.event ≡ true → NoRequestOfIdArrives (exchange_id_of_event arrival.event) items →
+      is_some (find_exchange (exchange_id_of_event arrival.event) (state_after_trace start (items ++ arrival ∷ before)).exchanges) ≡ (outcome_opens_exchange arrival.outcome && not (exchange_has_ended (exchange_id_of_event arrival.event) items))
   open_plain [] g a n = open_first _ _ _ _ _ _ (move_of start.table (state_after_trace start before) arrival (exchange_id_of_event arrival.event) (same_table start before) g.0) (eq-eqb (exchange_id_of_event arrival.event) (exchange_id_of_event arrival.event) refl) a
   open_plain (i ∷ items) g a n =
-      open_step _ _ _ _ _ _ (opens_an_exchange arrival.outcome) (exchange_has_ended (exchange_id_of_event arrival.event) items)
+      open_step _ _ _ _ _ _ (outcome_opens_exchange arrival.outcome) (exchange_has_ended (exchange_id_of_event arrival.event) items)
       (move_of start.table (state_after_trace start (items ++ arrival ∷ before)) i (exchange_id_of_event arrival.event) (same_table start (items ++ arrival ∷ before)) g.0) n.0 (open_plain items g.1 a n.1)
 
 pub exchanges_are_open_from_arrival_to_end : ExchangeIsOpenFromArrivalToEnd
@@ -122,7 +122,7 @@ none_step id w event o x y (closes z t ev x_is f h) a i = h
 none_step id w event o x y (turns z j m ev n x_is s f h) a i = absurd (false≢true (ap is_some (sym i ∙ x_is)))
 none_step id w event o x y (lapses z ev x_is s f h) a i = absurd (false≢true (ap is_some (sym i ∙ x_is)))
 
-none_plain : (table : Table) (start : StoreAtStart) (first id : ℕ) (trace : List Item) → IsGood (initial_state table start first) trace → NoRequestArrives id trace →
+none_plain : (table : Table) (start : StoreAtStart) (first id : ℕ) (trace : List Item) → TraceIsGood (initial_state table start first) trace → NoRequestOfIdArrives id trace →
     find_exchange id (state_after_trace (initial_state table start first) trace).exchanges ≡ None
 none_plain table start first id [] g n = refl
 none_plain table start first id (i ∷ past) g n =
@@ -146,34 +146,34 @@ exchanges_are_overtaken_where_invalidated table start first items before f x g o
     (out_since table start first f before (exchange_id_of_event f.event) items p o refl n x
     (ap (find_exchange (exchange_id_of_event f.event)) (exchanges_are_open table start first (items ++ f ∷ before) p) ∙ h) stage).1
 
-overtake_rule : (rule : RequestRoute → ReuseRule) (key : Scope) (x : Exchange) → x.rule ≡ rule x.line → (overtaken_exchange key x).rule ≡ rule (overtaken_exchange key x).line
+overtake_rule : (rule : RouteOverLine → ReuseRule) (key : Scope) (x : Exchange) → x.rule ≡ rule x.line → (exchange_overtaken_if_in_scope key x).rule ≡ rule (exchange_overtaken_if_in_scope key x).line
 overtake_rule rule key x h = elim (key_is_in_scope key x.asked.target.key) as (λ b. (cond b (record x { overtaken = true }) x).rule ≡ rule (cond b (record x { overtaken = true }) x).line) [
   | true ↦ h
   | false ↦ h
 ]
 
 -- the exchange, where there is one, has the rule that is that of its line
-HasRule : (RequestRoute → ReuseRule) → Option Exchange → Type 0
+HasRule : (RouteOverLine → ReuseRule) → Option Exchange → Type 0
 HasRule rule None = Unit {0}
 HasRule rule (Some x) = x.rule ≡ rule x.line
 
 -- by the word of a line
-abbrev rule_for : Table → List Stored → Asked → ℕ → RequestRoute → ReuseRule
+abbrev rule_for : Table → List Stored → Asked → ℕ → RouteOverLine → ReuseRule
 rule_for table es asked now line = rule_of_decision (decision_of (policy_of table.lines line) es asked now)
 
-release_rule : (rule : RequestRoute → ReuseRule) (i : ℕ) (x : Exchange) → x.rule ≡ rule x.line → (released_exchange i x).rule ≡ rule (released_exchange i x).line
+release_rule : (rule : RouteOverLine → ReuseRule) (i : ℕ) (x : Exchange) → x.rule ≡ rule x.line → (exchange_released_from_leader i x).rule ≡ rule (exchange_released_from_leader i x).line
 release_rule rule i x h = elim (waits_for i x.stage) as (λ b. (cond b (record x { stage = Released }) x).rule ≡ rule (cond b (record x { stage = Released }) x).line) [
   | true ↦ h
   | false ↦ h
 ]
 
-rule_released : (rule : RequestRoute → ReuseRule) (gone : Option ℕ) (x : Option Exchange) → HasRule rule x → HasRule rule (released_by gone x)
+rule_released : (rule : RouteOverLine → ReuseRule) (gone : Option ℕ) (x : Option Exchange) → HasRule rule x → HasRule rule (released_by gone x)
 unfolding HasRule
 rule_released rule None x h = h
 rule_released rule (Some i) None h = tt
 rule_released rule (Some i) (Some x) h = release_rule rule i x h
 
-rule_marked : (rule : RequestRoute → ReuseRule) (key : Option Scope) (x : Option Exchange) → HasRule rule x → HasRule rule (overtaken_by key x)
+rule_marked : (rule : RouteOverLine → ReuseRule) (key : Option Scope) (x : Option Exchange) → HasRule rule x → HasRule rule (overtaken_by key x)
 unfolding HasRule
 rule_marked rule None x h = h
 rule_marked rule (Some key) None h = tt
@@ -182,7 +182,7 @@ rule_marked rule (Some key) (Some x) h = overtake_rule rule key x h
 judged_now : (id : ℕ) (event : Event) → (eqb (exchange_id_of_event event) id && is_arrival_or_wake event) ≡ true → (eqb (exchange_id_of_event event) id && is_arrival_or_wake event) ≡ false → ⊥
 judged_now id event h a = false≢true (sym a ∙ h)
 
-rule_step : (rule : RequestRoute → ReuseRule) (id : ℕ) (w : Option Exchange) (event : Event) (o : Outcome) (x y : Option Exchange) → Move id w event o x y →
+rule_step : (rule : RouteOverLine → ReuseRule) (id : ℕ) (w : Option Exchange) (event : Event) (o : Outcome) (x y : Option Exchange) → Move id w event o x y →
     (eqb (exchange_id_of_event event) id && is_arrival_or_wake event) ≡ false → HasRule rule x → HasRule rule y
 unfolding HasRule
 rule_step rule id w event o x y (apart n h) a i =
@@ -204,7 +204,7 @@ rule_step rule id w event o x y (lapses z ev x_is s f h) a i =
 
 -- at the arrival
 rule_first : (table : Table) (es : List Stored) (xs : List Exchange) (now id : ℕ) (asked : Asked) (o : Outcome) → find_exchange id xs ≡ None →
-    HasRule (rule_for table es asked now) (find_exchange id (open_exchanges_after table es xs (Arrive now id asked) o))
+    HasRule (rule_for table es asked now) (find_exchange id (open_exchanges_after_event table es xs (Arrive now id asked) o))
 unfolding HasRule
 rule_first table es xs now id asked (Forward line bytes) f =
     let rule = rule_for table es asked now in
@@ -213,8 +213,8 @@ rule_first table es xs now id asked (Forward line bytes) f =
     in
     subst (HasRule rule) (sym here) refl
 rule_first table es xs now id asked (Waits leader) f =
-    let line : RequestRoute = line_of_verdict (verdict_of_asked table asked) in
-    subst (HasRule (rule_for table es asked now)) (sym (find-push id xs (waiting_exchange table es now id asked line leader) f ∙ ap (λ b. cond b (Some (waiting_exchange table es now id asked line leader)) (find_exchange id xs)) (eq-eqb id id refl))) refl
+    let line : RouteOverLine = line_of_verdict (verdict_of_asked table asked) in
+    subst (HasRule (rule_for table es asked now)) (sym (find-push id xs (exchange_begun_waiting table es now id asked line leader) f ∙ ap (λ b. cond b (Some (exchange_begun_waiting table es now id asked line leader)) (find_exchange id xs)) (eq-eqb id id refl))) refl
 rule_first table es xs now id asked (Reply r) f =
     let key = scope_purged asked (Reply r) in
     subst (HasRule (rule_for table es asked now)) (sym (find-purged key id xs ∙ ap (overtaken_by key) f ∙ none_overtaken key)) tt
@@ -233,22 +233,22 @@ module _ (table : Table) (start : StoreAtStart) (first now id : ℕ) (asked : As
   abbrev begun : State
   begun = initial_state table start first
 
-  rule_plain : (items : List Item) → IsGood begun (items ++ arrival ∷ before) → NoItemJudgesTheRequest id items →
+  rule_plain : (items : List Item) → TraceIsGood begun (items ++ arrival ∷ before) → NoItemJudgesTheRequest id items →
       HasRule (rule_for table (state_after_trace begun before).entries asked now) (find_exchange id (state_after_trace begun (items ++ arrival ∷ before)).exchanges)
   rule_plain [] g n =
       let s = state_after_trace begun before in
-      subst (λ (t : Table). HasRule (rule_for table s.entries asked now) (find_exchange id (open_exchanges_after t s.entries s.exchanges (Arrive now id asked) o))) (sym (same_table begun before))
+      subst (λ (t : Table). HasRule (rule_for table s.entries asked now) (find_exchange id (open_exchanges_after_event t s.entries s.exchanges (Arrive now id asked) o))) (sym (same_table begun before))
       (rule_first table s.entries s.exchanges now id asked o (id_was_free (find_exchange id s.exchanges) now id asked g.0.allowed))
   rule_plain (i ∷ items) g n =
       rule_step (rule_for table (state_after_trace begun before).entries asked now) id _ _ _ _ _
       (move_of table (state_after_trace begun (items ++ arrival ∷ before)) i id (same_table begun (items ++ arrival ∷ before)) g.0) n.0 (rule_plain items g.1 n.1)
 
-  rule_held : (items : List Item) (x : Exchange) → IsGood begun (items ++ arrival ∷ before) → NoItemJudgesTheRequest id items →
+  rule_held : (items : List Item) (x : Exchange) → TraceIsGood begun (items ++ arrival ∷ before) → NoItemJudgesTheRequest id items →
       find_exchange id (open_exchanges table start (items ++ arrival ∷ before)) ≡ Some x → x.rule ≡ rule_of_decision (decision_of (policy_of table.lines x.line) (held_entries table start before) asked now)
   unfolding HasRule
   rule_held items x p n h =
       let here = ap (find_exchange id) (exchanges_are_open table start first (items ++ arrival ∷ before) p) ∙ h in
-      let es_is = entries_are_held table start first before (part begun (items ++ arrival ∷ []) before (subst (IsGood begun) (split items) p)) in
+      let es_is = entries_are_held table start first before (part begun (items ++ arrival ∷ []) before (subst (TraceIsGood begun) (split items) p)) in
       let has : HasRule (rule_for table (state_after_trace begun before).entries asked now) (Some x) =
       subst (HasRule (rule_for table (state_after_trace begun before).entries asked now)) here (rule_plain items p n)
       in
@@ -261,6 +261,6 @@ module _ (table : Table) (start : StoreAtStart) (first now id : ℕ) (asked : As
 pub keeps_its_rule : OpenExchangeKeepsItsRule
 keeps_its_rule table start first now id asked items before arrival x g e n h =
     let same : arrival ≡ record { event = Arrive now id asked; outcome = arrival.outcome } = ap (λ (v : Event). record { event = v; outcome = arrival.outcome }) e in
-    let p = subst (λ (a : Item). IsGood (initial_state table start first) (items ++ a ∷ before)) same (good_plain table start first (items ++ arrival ∷ before) g) in
+    let p = subst (λ (a : Item). TraceIsGood (initial_state table start first) (items ++ a ∷ before)) same (good_plain table start first (items ++ arrival ∷ before) g) in
     rule_held table start first now id asked before arrival.outcome items x p n
     (subst (λ (a : Item). find_exchange id (open_exchanges table start (items ++ a ∷ before)) ≡ Some x) same h)

@@ -11,12 +11,12 @@ use Rattle.proxy_core.specs.declared.open.released.Released.{Released}
 use Rattle.proxy_core.specs.declared.open.stage.Stage.{Stage}
 use Rattle.proxy_core.specs.declared.open.stage.Stage.TheVariants as stages
 use Rattle.proxy_core.specs.declared.open.wait_index.WaitIndex.{WaitIndex}
-use Rattle.proxy_core.specs.Arrivals.{HaveDistinctArrivalsAndIds, IsIdIndexOf, SelectedArrivalsPassTest, arrival_number_of_id, map_exchanges}
+use Rattle.proxy_core.specs.Arrivals.{HaveDistinctArrivalsAndIds, IsIdIndexOf, SelectedArrivalsPassTest, arrival_number_of_id, exchanges_each_changed}
 use Rattle.proxy_core.specs.Leading.{is_forwarded, is_released, is_waiting, waits_for}
 use Rattle.proxy_core.specs.Outcomes.{find_exchange}
-use Rattle.proxy_core.specs.Releases.{ReleasedRangeIsNotNarrowed, ReleasedArrivalsPassTest, may_be_released}
-use Rattle.proxy_core.specs.State.{exchange_released_by_timeout, overdue_exchange}
-use Rattle.proxy_core.specs.Waiters.{WaiterIsRemoved, is_in_wait_index}
+use Rattle.proxy_core.specs.Releases.{ReleasedRangeIsNotNarrowed, ReleasedArrivalsPassTest, arrival_may_be_released}
+use Rattle.proxy_core.specs.State.{exchange_released_by_timeout, exchange_after_wait_timeout}
+use Rattle.proxy_core.specs.Waiters.{ArrivalIsRemovedIfWaiting, arrival_is_in_wait_index}
 use Rattle.proxy_core.proofs.Arrivals.{found, written}
 use Rattle.proxy_core.proofs.AskedArrivals.{KeepsItsPlace, written_again}
 use Rattle.proxy_core.proofs.ExchangeLists.{found-id}
@@ -29,27 +29,27 @@ Numbered = List (ℕ × Exchange)
 abbrev at : ℕ → ℕ → Bool
 at n k = is_at (nat_cmp n) k
 
-pub overdue-others : (id : ℕ) (x : Exchange) → eqb x.id id ≡ false → overdue_exchange id x ≡ x
+pub overdue-others : (id : ℕ) (x : Exchange) → eqb x.id id ≡ false → exchange_after_wait_timeout id x ≡ x
 overdue-others id x h = ap (λ b. cond (b && is_waiting x.stage) (exchange_released_by_timeout x) x) h
 
 -- it is written at the arrival of its id
 pub overdue_written : (id n : ℕ) (x y : Exchange) (es : Numbered) (arrivals : ℕ → Option ℕ) → IsIdIndexOf es arrivals → Some n ≡ arrivals id → Some x ≡ lookup (at n) es → is_waiting x.stage ≡ true → y ≡ exchange_released_by_timeout x →
-    set_value (at n) es y ≡ map_exchanges (overdue_exchange id) es
+    set_value (at n) es y ≡ exchanges_each_changed (exchange_after_wait_timeout id) es
 overdue_written id n x y es arrivals s h there waits e =
     let here : arrival_number_of_id id es ≡ Some n = sym (s.indexed id) ∙ sym h in
     let is : find_exchange id (values_of es) ≡ Some x = sym (found id n es s.apart here) ∙ sym there in
     let its : (eqb x.id id && is_waiting x.stage) ≡ true = ap (λ b. b && is_waiting x.stage) (found-id id (values_of es) x is) ∙ waits in
-    let same : y ≡ overdue_exchange id x = e ∙ sym (ap (λ b. cond b (exchange_released_by_timeout x) x) its) in
+    let same : y ≡ exchange_after_wait_timeout id x = e ∙ sym (ap (λ b. cond b (exchange_released_by_timeout x) x) its) in
     ap (λ (z : Exchange). set_value (at n) es z) same
-    ∙ written id (overdue_exchange id) (overdue-others id) n es x s.apart here (sym there)
+    ∙ written id (exchange_after_wait_timeout id) (overdue-others id) n es x s.apart here (sym there)
 
 -- one that doesn't wait stays
 pub none_overdue : (id n : ℕ) (x : Exchange) (es : Numbered) (arrivals : ℕ → Option ℕ) → IsIdIndexOf es arrivals → Some n ≡ arrivals id → Some x ≡ lookup (at n) es → is_waiting x.stage ≡ false →
-    map_exchanges (overdue_exchange id) es ≡ es
+    exchanges_each_changed (exchange_after_wait_timeout id) es ≡ es
 none_overdue id n x es arrivals s h there waits_not =
     let here : arrival_number_of_id id es ≡ Some n = sym (s.indexed id) ∙ sym h in
-    let same : overdue_exchange id x ≡ x = ap (λ b. cond b (exchange_released_by_timeout x) x) (ap (λ b. eqb x.id id && b) waits_not ∙ none (eqb x.id id)) in
-    sym (written id (overdue_exchange id) (overdue-others id) n es x s.apart here (sym there))
+    let same : exchange_after_wait_timeout id x ≡ x = ap (λ b. cond b (exchange_released_by_timeout x) x) (ap (λ b. eqb x.id id && b) waits_not ∙ none (eqb x.id id)) in
+    sym (written id (exchange_after_wait_timeout id) (overdue-others id) n es x s.apart here (sym there))
     ∙ (ap (λ (z : Exchange). set_value (at n) es z) same ∙ written_again n x es (sym there))
   where
     none : (a : Bool) → (a && false) ≡ false
@@ -57,13 +57,13 @@ none_overdue id n x es arrivals s h there waits_not =
     none false = refl
 
 -- it waits for none any more
-pub waiters-past : (n : ℕ) (x y : Exchange) (es : Numbered) (old new : WaitIndex) → lookup (at n) es ≡ Some x → y ≡ exchange_released_by_timeout x → WaiterIsRemoved x.stage n old new →
+pub waiters-past : (n : ℕ) (x y : Exchange) (es : Numbered) (old new : WaitIndex) → lookup (at n) es ≡ Some x → y ≡ exchange_released_by_timeout x → ArrivalIsRemovedIfWaiting x.stage n old new →
     AllIndexed old es → AllIndexed new (set_value (at n) es y)
 waiters-past n x y es old new there is k h id =
-    indexes-left (λ z. waits_for id z.stage) n x (Some y) (is_in_wait_index old id) (is_in_wait_index new id) es (set_value (at n) es y) there (ap (λ (z : Exchange). waits_for id z.stage) is) (λ m. lookup-set m n x y es there) (k id) (h id)
+    indexes-left (λ z. waits_for id z.stage) n x (Some y) (arrival_is_in_wait_index old id) (arrival_is_in_wait_index new id) es (set_value (at n) es y) there (ap (λ (z : Exchange). waits_for id z.stage) is) (λ m. lookup-set m n x y es there) (k id) (h id)
 
 -- whoever waits isn't at the origin
-pub overdue-place : (id : ℕ) → KeepsItsPlace (overdue_exchange id)
+pub overdue-place : (id : ℕ) → KeepsItsPlace (exchange_after_wait_timeout id)
 overdue-place id x = (
   elim (eqb x.id id && is_waiting x.stage) as (λ b. (cond b (exchange_released_by_timeout x) x).asked ≡ x.asked) [ true ↦ refl | false ↦ refl ],
   elim (cases_Bool (eqb x.id id && is_waiting x.stage)) [
@@ -93,6 +93,6 @@ pass-set which n y p q (e ∷ es) more here h = by_test (pass-set which n y p q 
     by_test rest true t = (λ w. ap q (same t) ∙ here, pass-more which p q es more h.1)
     by_test rest false t = (λ w. more e.0 (h.0 w), rest)
 
-pub pass-lapsed : (n : ℕ) (y : Exchange) (old new : Released) (es : Numbered) → ReleasedRangeIsNotNarrowed old new → may_be_released new n ≡ true →
-    ReleasedArrivalsPassTest (may_be_released old) es → ReleasedArrivalsPassTest (may_be_released new) (set_value (at n) es y)
-pass-lapsed n y old new es covers here h = pass-set (λ x. is_released x.stage) n y (may_be_released old) (may_be_released new) es covers here h
+pub pass-lapsed : (n : ℕ) (y : Exchange) (old new : Released) (es : Numbered) → ReleasedRangeIsNotNarrowed old new → arrival_may_be_released new n ≡ true →
+    ReleasedArrivalsPassTest (arrival_may_be_released old) es → ReleasedArrivalsPassTest (arrival_may_be_released new) (set_value (at n) es y)
+pass-lapsed n y old new es covers here h = pass-set (λ x. is_released x.stage) n y (arrival_may_be_released old) (arrival_may_be_released new) es covers here h

@@ -8,7 +8,7 @@ use Rattle.hx_hop.specs.declared.request_view.Asked.{Asked}
 use Rattle.hx_allow.specs.Matching.{policy_of}
 use Rattle.proxy_core.specs.Allowing.{verdict_of_asked}
 use Rattle.hx_allow.specs.declared.verdicts.Verdict.TheVariants.{Allowed}
-use Rattle.hx_allow.specs.declared.verdicts.RequestRoute.{RequestRoute}
+use Rattle.hx_allow.specs.declared.verdicts.RouteOverLine.{RouteOverLine}
 use Rattle.hx_store.specs.Recency.{option_is_serial}
 use Rattle.hx_reuse.specs.ChosenAndNamed.{RuleOnChosenNamesItsSerial}
 use Rattle.hx_reuse.specs.Rules.{decision_of}
@@ -24,7 +24,7 @@ use Rattle.proxy_core.specs.declared.outcome.Outcome.TheVariants.{Reply, Forward
 use Rattle.proxy_core.specs.declared.event.Event.{Event}
 use Rattle.proxy_core.specs.declared.event.Event.TheVariants.{Arrive, Answer, Fail, Wake, Abandon, Overdue}
 use Rattle.proxy_core.specs.declared.core_fault.CoreFault.{CoreFault}
-use Rattle.proxy_core.specs.Validating.{condition_about_serial}
+use Rattle.proxy_core.specs.Validating.{condition_to_revalidate_serial}
 use Rattle.proxy_core.specs.Outcomes.{step_fault, forward_text, outcome_of_event}
 use Rattle.proxy_core.specs.State.{serials_removed_by_outcome, serial_stored_by_outcome, serial_used_by_outcome}
 use Rattle.proxy_core.specs.Starts.{empty_store}
@@ -33,7 +33,7 @@ use Rattle.proxy_core.specs.Histories.{held_entries, next_serial, open_exchanges
 use Rattle.proxy_core.specs.Promises.{latest_request_of}
 use Rattle.proxy_core.specs.GoingOn.{ConditionIsSentAtEvent}
 use Rattle.proxy_core.specs.Headline.{HoldsAtEachItem, AnswerHasFinalStatus}
-use Rattle.proxy_core.specs.Cases.{bytes_of_reply_outcome}
+use Rattle.proxy_core.specs.Cases.{bytes_of_outcome}
 use Rattle.proxy_core.specs.WrongTraces.{HeadlineRefuses, three_line_table, trace_of_good_events, item_with_outcome, GoingForwardIsWrong, trace_with_wrong_item}
 use Rattle.proxy_core.proofs.Awaits.{one_rule, one_named}
 use Rattle.proxy_core.proofs.OneOutcome.{no_other_trace_has_it}
@@ -96,7 +96,7 @@ abbrev pub removes_none : Outcome → Bool
 removes_none o = length (serials_removed_by_outcome o) == 0
 
 abbrev pub has_bytes : List ℕ → Outcome → Bool
-has_bytes bytes o = bytes_eq (bytes_of_reply_outcome o) bytes
+has_bytes bytes o = bytes_eq (bytes_of_outcome o) bytes
 
 abbrev pub goes_by : ℕ → Outcome → Bool
 goes_by n (Forward line bytes) = line.number == n
@@ -155,19 +155,19 @@ tells_no_origin o = tells (λ (a : StatusAndReason). is_none a.origin_line) o
 
 -- ---- what goes forward at an arrival
 
-module _ (past : List Item) (now id : ℕ) (line : RequestRoute) (asked : Asked) (bytes : List ℕ) (rule : ReuseRule) (against : Option ℕ)
+module _ (past : List Item) (now id : ℕ) (line : RouteOverLine) (asked : Asked) (bytes : List ℕ) (rule : ReuseRule) (against : Option ℕ)
     (decided : decision_of (policy_of three_line_table.lines line) (held_entries three_line_table (empty_store 2) past) asked now ≡ decision.Forward rule against) where
   condition_is : (condition : Option Condition) → ConditionIsSentAtEvent (policy_of three_line_table.lines line) (held_entries three_line_table (empty_store 2) past) asked (Arrive now id asked) condition →
-      condition ≡ condition_about_serial (held_entries three_line_table (empty_store 2) past) against
+      condition ≡ condition_to_revalidate_serial (held_entries three_line_table (empty_store 2) past) against
   condition_is condition (r, named, least, names, is) =
       let known = names_the_least (policy_of three_line_table.lines line) (held_entries three_line_table (empty_store 2) past) asked now rule against decided in
       let same : r ≡ rule = one_rule (policy_of three_line_table.lines line) (held_entries three_line_table (empty_store 2) past) asked now r rule least known.0 in
       is
-      ∙ ap (condition_about_serial (held_entries three_line_table (empty_store 2) past))
+      ∙ ap (condition_to_revalidate_serial (held_entries three_line_table (empty_store 2) past))
       (one_named (policy_of three_line_table.lines line) (held_entries three_line_table (empty_store 2) past) asked now rule named against (subst (λ q. RuleOnChosenNamesItsSerial (held_entries three_line_table (empty_store 2) past) asked q named) same names) known.1)
 
   -- a test that these bytes pass, and those that have to go forward don't
-  pub refuse_bytes : (test : List ℕ → Bool) → test bytes ≡ true → test (forward_text three_line_table line asked (condition_about_serial (held_entries three_line_table (empty_store 2) past) against)) ≡ false → GoingForwardIsWrong past (Arrive now id asked) (Forward line bytes)
+  pub refuse_bytes : (test : List ℕ → Bool) → test bytes ≡ true → test (forward_text three_line_table line asked (condition_to_revalidate_serial (held_entries three_line_table (empty_store 2) past) against)) ≡ false → GoingForwardIsWrong past (Arrive now id asked) (Forward line bytes)
   refuse_bytes test passes fails h = by_parts (h line bytes refl)
     where
       by_parts : (q : Asked) × (condition : Option Condition) × (latest_request_of id (item_with_outcome (Arrive now id asked) (Forward line bytes) ∷ past) ≡ Some q) × (verdict_of_asked three_line_table q ≡ Allowed line)
@@ -179,7 +179,7 @@ module _ (past : List Item) (now id : ℕ) (line : RequestRoute) (asked : Asked)
           (sym fails ∙ ap (λ c. test (forward_text three_line_table line asked c)) (sym carried) ∙ ap (λ z. test (forward_text three_line_table line z condition)) own ∙ sym (ap test text) ∙ passes)
 
 -- the line isn't the one that allows it
-pub refuse_line : (now id : ℕ) (line : RequestRoute) (asked : Asked) (bytes : List ℕ) → (verdict_of_asked three_line_table asked ≡ Allowed line → ⊥) → GoingForwardIsWrong [] (Arrive now id asked) (Forward line bytes)
+pub refuse_line : (now id : ℕ) (line : RouteOverLine) (asked : Asked) (bytes : List ℕ) → (verdict_of_asked three_line_table asked ≡ Allowed line → ⊥) → GoingForwardIsWrong [] (Arrive now id asked) (Forward line bytes)
 refuse_line now id line asked bytes never h =
     let parts = h line bytes refl in
     let own : asked ≡ parts.0 = same_Some asked parts.0 (sym (ap (λ b. cond b (Some asked) None) (eq-eqb id id refl)) ∙ parts.2) in

@@ -18,10 +18,10 @@ use Rattle.hx_reuse.specs.declared.rule.ReuseRule.{ReuseRule}
 use Rattle.proxy_core.specs.declared.steps.condition.Condition.{Condition}
 use Rattle.proxy_core.specs.declared.open.released.Released.{Released}
 use Rattle.proxy_core.specs.Scopes.{Scope, key_is_in_scope}
-use Rattle.proxy_core.specs.State.{released_exchange, overtaken_exchange, exchange_gone_forward, exchange_forwarded_again, exchange_sent_forward}
+use Rattle.proxy_core.specs.State.{exchange_released_from_leader, exchange_overtaken_if_in_scope, exchange_gone_forward, exchange_after_second_forward, exchange_sent_forward_if_of_id}
 use Rattle.proxy_core.specs.Leading.{is_released, wakeable_ids, waits_for}
-use Rattle.proxy_core.specs.Arrivals.{HaveDistinctArrivalsAndIds, WaitingArrivalsPassTest, map_exchanges}
-use Rattle.proxy_core.specs.Releases.{first_released_arrival, is_between_arrivals, may_be_released, ReleasedRangeIsNotNarrowed, ReleasedArrivalsPassTest}
+use Rattle.proxy_core.specs.Arrivals.{HaveDistinctArrivalsAndIds, WaitingArrivalsPassTest, exchanges_each_changed}
+use Rattle.proxy_core.specs.Releases.{first_released_arrival, is_between_arrivals, arrival_may_be_released, ReleasedRangeIsNotNarrowed, ReleasedArrivalsPassTest}
 use Rattle.proxy_core.proofs.Waiters.{TurnsAway, released_away, pass-more, pass-opened, pass-removed, pass-on_all}
 
 abbrev Numbered : Type 0
@@ -178,39 +178,39 @@ none_is (e ∷ es) h = elim (cases_Bool (is_released e.1.stage)) [
 
 -- ---- changing
 
-pub released-sent : (id now : ℕ) (rule : ReuseRule) (named : Option ℕ) (condition : Option Condition) (x : Exchange) → is_released (exchange_sent_forward id now rule named condition x).stage ≡ true → is_released x.stage ≡ true
+pub released-sent : (id now : ℕ) (rule : ReuseRule) (named : Option ℕ) (condition : Option Condition) (x : Exchange) → is_released (exchange_sent_forward_if_of_id id now rule named condition x).stage ≡ true → is_released x.stage ≡ true
 released-sent id now rule named condition x h = elim (cases_Bool (eqb x.id id)) [
   | inl t ↦ absurd (false≢true (sym (ap (λ b. is_released (cond b (exchange_gone_forward now rule named condition x) x).stage) t) ∙ h))
   | inr f ↦ sym (ap (λ b. is_released (cond b (exchange_gone_forward now rule named condition x) x).stage) f) ∙ h
 ]
 
-pub released-gone : (id now : ℕ) (x : Exchange) → is_released (exchange_forwarded_again id now x).stage ≡ true → is_released x.stage ≡ true
+pub released-gone : (id now : ℕ) (x : Exchange) → is_released (exchange_after_second_forward id now x).stage ≡ true → is_released x.stage ≡ true
 released-gone id now x h = elim (cases_Bool (eqb x.id id)) [
   | inl t ↦ absurd (false≢true (sym (ap (λ b. is_released (cond b (exchange_gone_forward now x.rule x.named None x) x).stage) t) ∙ h))
   | inr f ↦ sym (ap (λ b. is_released (cond b (exchange_gone_forward now x.rule x.named None x) x).stage) f) ∙ h
 ]
 
-pub released-overtaken : (key : Scope) (x : Exchange) → is_released (overtaken_exchange key x).stage ≡ true → is_released x.stage ≡ true
+pub released-overtaken : (key : Scope) (x : Exchange) → is_released (exchange_overtaken_if_in_scope key x).stage ≡ true → is_released x.stage ≡ true
 released-overtaken key x h = elim (cases_Bool (key_is_in_scope key x.asked.target.key)) [
   | inl t ↦ sym (ap (λ b. is_released (cond b (record x { overtaken = true }) x).stage) t) ∙ h
   | inr f ↦ sym (ap (λ b. is_released (cond b (record x { overtaken = true }) x).stage) f) ∙ h
 ]
 
 pub pass-changed : (test : ℕ → Bool) (f : Exchange → Exchange) → ((x : Exchange) → is_released (f x).stage ≡ true → is_released x.stage ≡ true) →
-    (es : Numbered) → ReleasedArrivalsPassTest test es → ReleasedArrivalsPassTest test (map_exchanges f es)
+    (es : Numbered) → ReleasedArrivalsPassTest test es → ReleasedArrivalsPassTest test (exchanges_each_changed f es)
 pass-changed test f k es h = pass-on_all (λ x. is_released x.stage) test f k es h
 
 pub pass-closed : (n : ℕ) (test : ℕ → Bool) (es : Numbered) → HaveDistinctArrivalsAndIds es → ReleasedArrivalsPassTest test es → ReleasedArrivalsPassTest test (remove_entry (at n) es)
 pass-closed n test es a h = pass-removed (λ x. is_released x.stage) n test test es a (λ m o t. t) h
 
-pub pass-entered : (n : ℕ) (x : Exchange) (old new : Released) (es : Numbered) → ReleasedRangeIsNotNarrowed old new → (is_released x.stage ≡ true → may_be_released new n ≡ true) →
-    ReleasedArrivalsPassTest (may_be_released old) es → ReleasedArrivalsPassTest (may_be_released new) (es ++ (n, x) ∷ [])
+pub pass-entered : (n : ℕ) (x : Exchange) (old new : Released) (es : Numbered) → ReleasedRangeIsNotNarrowed old new → (is_released x.stage ≡ true → arrival_may_be_released new n ≡ true) →
+    ReleasedArrivalsPassTest (arrival_may_be_released old) es → ReleasedArrivalsPassTest (arrival_may_be_released new) (es ++ (n, x) ∷ [])
 pass-entered n x old new es w k h =
-    pass-opened (λ y. is_released y.stage) n x (may_be_released new) es k (pass-more (λ y. is_released y.stage) (may_be_released old) (may_be_released new) es w h)
+    pass-opened (λ y. is_released y.stage) n x (arrival_may_be_released new) es k (pass-more (λ y. is_released y.stage) (arrival_may_be_released old) (arrival_may_be_released new) es w h)
 
 -- whom a change of those alone that wait for an id releases waited for that
-pub pass-turned : (q : ℕ) (f : Exchange → Exchange) → TurnsAway q f → (ns : ℕ → Bool) (old new : Released) (es : Numbered) → ReleasedRangeIsNotNarrowed old new → ((n : ℕ) → ns n ≡ true → may_be_released new n ≡ true) →
-    WaitingArrivalsPassTest q ns es → ReleasedArrivalsPassTest (may_be_released old) es → ReleasedArrivalsPassTest (may_be_released new) (map_exchanges f es)
+pub pass-turned : (q : ℕ) (f : Exchange → Exchange) → TurnsAway q f → (ns : ℕ → Bool) (old new : Released) (es : Numbered) → ReleasedRangeIsNotNarrowed old new → ((n : ℕ) → ns n ≡ true → arrival_may_be_released new n ≡ true) →
+    WaitingArrivalsPassTest q ns es → ReleasedArrivalsPassTest (arrival_may_be_released old) es → ReleasedArrivalsPassTest (arrival_may_be_released new) (exchanges_each_changed f es)
 pass-turned q f t ns old new [] w k g h = tt
 pass-turned q f t ns old new (e ∷ es) w k g h =
     (λ r. elim (freed e.1 r) [ inl s ↦ w e.0 (h.0 s) | inr a ↦ k e.0 (g.0 a) ], pass-turned q f t ns old new es w k g.1 h.1)
@@ -221,6 +221,6 @@ pass-turned q f t ns old new (e ∷ es) w k g h =
       | inr o ↦ inl (ap (λ (y : Exchange). is_released y.stage) (sym (t.others x o)) ∙ r)
     ]
 
-pub pass-freed : (q : ℕ) (ns : ℕ → Bool) (old new : Released) (es : Numbered) → ReleasedRangeIsNotNarrowed old new → ((n : ℕ) → ns n ≡ true → may_be_released new n ≡ true) →
-    WaitingArrivalsPassTest q ns es → ReleasedArrivalsPassTest (may_be_released old) es → ReleasedArrivalsPassTest (may_be_released new) (map_exchanges (released_exchange q) es)
-pass-freed q ns old new es w k g h = pass-turned q (released_exchange q) (released_away q) ns old new es w k g h
+pub pass-freed : (q : ℕ) (ns : ℕ → Bool) (old new : Released) (es : Numbered) → ReleasedRangeIsNotNarrowed old new → ((n : ℕ) → ns n ≡ true → arrival_may_be_released new n ≡ true) →
+    WaitingArrivalsPassTest q ns es → ReleasedArrivalsPassTest (arrival_may_be_released old) es → ReleasedArrivalsPassTest (arrival_may_be_released new) (exchanges_each_changed (exchange_released_from_leader q) es)
+pass-freed q ns old new es w k g h = pass-turned q (exchange_released_from_leader q) (released_away q) ns old new es w k g h

@@ -4,8 +4,8 @@ use Rattle.hx_allow.specs.TableLines.{Table}
 use Rattle.hx_store.specs.Stored.{Stored}
 use Rattle.proxy_core.specs.declared.open.exchange.Exchange.{Exchange}
 use Rattle.proxy_core.specs.State.{State, state_after_event, bounds_of, NoSerialIsHeldFrom}
-use Rattle.proxy_core.specs.Starts.{StoreAtStart, StartIsValid}
-use Rattle.proxy_core.specs.Traces.{Item, initial_state, state_after_trace, ItemIsAccepted, IsGood}
+use Rattle.proxy_core.specs.Starts.{StoreAtStart, StoreAtStartIsValid}
+use Rattle.proxy_core.specs.Traces.{Item, initial_state, state_after_trace, ItemIsAccepted, TraceIsGood}
 use Rattle.proxy_core.specs.Histories.{held_entries, IsGoodHistory}
 use Rattle.proxy_core.specs.Restarts.{NoExchangeIsOpenAfter, store_after_trace, TracesAroundARestartJoin, TraceSplitsAtARestart, SplitTraceLeavesSameStateAsWhole, RestartedTraceLeavesSameState}
 use Rattle.proxy_core.proofs.HeldLaw.{good_held, good_plain, stands_for, entries_are_held, exchanges_are_open, next_is_counted}
@@ -23,7 +23,7 @@ leaves_on begun before [] = refl
 leaves_on begun before (i ∷ after) = ap (λ (s : State). state_after_event s i.event i.outcome) (leaves_on begun before after)
 
 -- the other trace is good from what the first leaves
-good_on : (begun : State) (before after : List Item) → IsGood begun before → IsGood (state_after_trace begun before) after → IsGood begun (after ++ before)
+good_on : (begun : State) (before after : List Item) → TraceIsGood begun before → TraceIsGood (state_after_trace begun before) after → TraceIsGood begun (after ++ before)
 good_on begun before [] g h = g
 good_on begun before (i ∷ after) g h = (
   subst (λ (s : State). ItemIsAccepted begun.table s.entries s.exchanges s.next i) (sym (leaves_on begun before after))
@@ -33,8 +33,8 @@ good_on begun before (i ∷ after) g h = (
 )
 
 -- and the other way round, where what the first leaves may be held at first
-good_back : (begun : State) (before after : List Item) → StartIsValid (bounds_of (state_after_trace begun before).table (state_after_trace begun before).limit) (state_after_trace begun before).next (state_after_trace begun before).entries →
-    IsGood begun (after ++ before) → IsGood (state_after_trace begun before) after
+good_back : (begun : State) (before after : List Item) → StoreAtStartIsValid (bounds_of (state_after_trace begun before).table (state_after_trace begun before).limit) (state_after_trace begun before).next (state_after_trace begun before).entries →
+    TraceIsGood begun (after ++ before) → TraceIsGood (state_after_trace begun before) after
 good_back begun before [] stands g = stands
 good_back begun before (i ∷ after) stands g = (
   subst (λ (t : Table). ItemIsAccepted t (state_after_trace (state_after_trace begun before) after).entries (state_after_trace (state_after_trace begun before) after).exchanges (state_after_trace (state_after_trace begun before) after).next i)
@@ -69,7 +69,7 @@ module _ (table : Table) (start : StoreAtStart) (first next : ℕ) (before : Lis
       left_is (state_after_trace begun before) table start.limit (held_entries table start before) next p.table_is p.limit_is
       (entries_are_held table start first before plain) (p.exchanges_are ∙ quiet.none_open) (p.next_is ∙ quiet.next_is)
 
-  may_begin : StartIsValid (bounds_of table start.limit) (Some next) (held_entries table start before)
+  may_begin : StoreAtStartIsValid (bounds_of table start.limit) (Some next) (held_entries table start before)
   may_begin =
       let plain = good_plain table start first before good in
       let p = stands_for table start first before plain in
@@ -84,14 +84,14 @@ module _ (table : Table) (start : StoreAtStart) (first next : ℕ) (before : Lis
   whole_is_good after g =
       good_held table start first (after ++ before)
       (good_on begun before after (good_plain table start first before good)
-      (subst (λ (s : State). IsGood s after) (sym begins_again) (good_plain table (store_after_trace table start before) next after g)))
+      (subst (λ (s : State). TraceIsGood s after) (sym begins_again) (good_plain table (store_after_trace table start before) next after g)))
 
-  rest_is_plain : (after : List Item) → IsGood begun (after ++ before) → IsGood again after
+  rest_is_plain : (after : List Item) → TraceIsGood begun (after ++ before) → TraceIsGood again after
   rest_is_plain after g =
-      subst (λ (s : State). IsGood s after) begins_again
-      (good_back begun before after (subst (λ (s : State). IsGood s []) (sym begins_again) may_begin) g)
+      subst (λ (s : State). TraceIsGood s after) begins_again
+      (good_back begun before after (subst (λ (s : State). TraceIsGood s []) (sym begins_again) may_begin) g)
 
-  leaves_same : (after : List Item) → IsGood begun (after ++ before) → SplitTraceLeavesSameStateAsWhole table start first next before after
+  leaves_same : (after : List Item) → TraceIsGood begun (after ++ before) → SplitTraceLeavesSameStateAsWhole table start first next before after
   leaves_same after g =
       let rest = rest_is_plain after g in
       let same : state_after_trace begun (after ++ before) ≡ state_after_trace again after =

@@ -16,8 +16,8 @@ use Rattle.std.proofs.lemmas.Bool.{false≢true}
 use Rattle.proxy_core.specs.Outcomes.{find_exchange, exchange_id_of_event, fault_at_exchange, fault_if_not_forwarded, fault_else}
 use Rattle.proxy_core.specs.Traces.{Item}
 use Rattle.proxy_core.specs.Histories.{open_exchanges, IsGoodHistory}
-use Rattle.proxy_core.specs.Promises.{outcome_goes_forward, count_of_outcomes, some_item_overtakes_key, NoItemOvertakesKey}
-use Rattle.proxy_core.specs.Carrying.{ExchangeWasJudged, EventJudgesExchange, ExchangeWentForwardOnce, ExchangeWentForwardASecondTime, HasWaitedSinceItsArrival, second_forward_item}
+use Rattle.proxy_core.specs.Promises.{outcome_goes_forward, count_of_outcomes_of_id, some_item_overtakes_key, NoItemOvertakesKey}
+use Rattle.proxy_core.specs.Carrying.{ExchangeWasJudged, EventArrivesOrWakesExchange, ExchangeWentForwardOnce, ExchangeWentForwardASecondTime, HasWaitedSinceItsArrival, second_forward_item}
 use Rattle.proxy_core.specs.StoredAnswers.{KeyIsNotOvertakenSinceForward}
 use Rattle.proxy_core.proofs.Marks.{none_of_some}
 use Rattle.proxy_core.proofs.OpenLaws.{exchanges_are_overtaken_where_invalidated}
@@ -44,9 +44,9 @@ record WentLast (past : List Item) (x : Exchange) : Type 0 where
   past_is : past ≡ since ++ went ∷ before
   is_of_exchange : exchange_id_of_event went.event ≡ x.id
   goes_forward : outcome_goes_forward went.outcome ≡ true
-  is_the_last : count_of_outcomes outcome_goes_forward x.id since ≡ 0
+  is_the_last : count_of_outcomes_of_id outcome_goes_forward x.id since ≡ 0
 
-id_of_judged : (event : Event) (now : ℕ) (x : Exchange) → EventJudgesExchange event now x → exchange_id_of_event event ≡ x.id
+id_of_judged : (event : Event) (now : ℕ) (x : Exchange) → EventArrivesOrWakesExchange event now x → exchange_id_of_event event ≡ x.id
 id_of_judged event now x (inl arrives) = ap exchange_id_of_event arrives
 id_of_judged event now x (inr wakes) = ap exchange_id_of_event wakes
 
@@ -90,11 +90,11 @@ some_of_none key [] past h = refl
 some_of_none key (i ∷ items) past h = ap (λ b. b || some_item_overtakes_key key items past) h.0 ∙ some_of_none key items past h.1
 
 module _ (table : Table) (start : StoreAtStart) (first : ℕ) (past : List Item) (good : IsGoodHistory table start first past) (x : Exchange) (found : find_exchange x.id (open_exchanges table start past) ≡ Some x) (out : x.stage ≡ Forwarded) where
-  mark_is : (since before : List Item) (went : Item) → past ≡ since ++ went ∷ before → exchange_id_of_event went.event ≡ x.id → outcome_goes_forward went.outcome ≡ true → count_of_outcomes outcome_goes_forward x.id since ≡ 0 →
+  mark_is : (since before : List Item) (went : Item) → past ≡ since ++ went ∷ before → exchange_id_of_event went.event ≡ x.id → outcome_goes_forward went.outcome ≡ true → count_of_outcomes_of_id outcome_goes_forward x.id since ≡ 0 →
       x.overtaken ≡ some_item_overtakes_key x.asked.target.key since (went ∷ before)
   mark_is since before went is id goes last =
       exchanges_are_overtaken_where_invalidated table start first since before went x (subst (IsGoodHistory table start first) is good) goes
-      (ap (λ n. count_of_outcomes outcome_goes_forward n since) id ∙ last)
+      (ap (λ n. count_of_outcomes_of_id outcome_goes_forward n since) id ∙ last)
       (ap (λ n. find_exchange n (open_exchanges table start (since ++ went ∷ before))) id ∙ sym (ap (λ (is : List Item). find_exchange x.id (open_exchanges table start is)) is) ∙ found)
       out
 

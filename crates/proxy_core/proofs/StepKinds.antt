@@ -10,10 +10,10 @@ use Rattle.hx_allow.specs.Matching.{policy_of}
 use Rattle.proxy_core.specs.Allowing.{verdict_of_asked}
 use Rattle.hx_allow.specs.declared.verdicts.Verdict.{Verdict}
 use Rattle.hx_allow.specs.declared.verdicts.Verdict.TheVariants as verdict
-use Rattle.hx_allow.specs.declared.verdicts.RequestRoute.{RequestRoute}
+use Rattle.hx_allow.specs.declared.verdicts.RouteOverLine.{RouteOverLine}
 use Rattle.hx_store.specs.Stored.{Stored}
 use Rattle.hx_store.specs.Serials.{serial_is_in}
-use Rattle.hx_store.specs.Shelf.{holds_serial, find_entry, entry_matches_request, serials_of_key}
+use Rattle.hx_store.specs.Shelf.{holds_serial, find_entry_of_serial, entry_vary_matches_request, serials_of_key}
 use Rattle.hx_store.proofs.Recency.{is_in-filter}
 use Rattle.hx_reuse.specs.Rules.{decision_of}
 use Rattle.hx_reuse.specs.ChosenAndNamed.{RuleOnChosenNamesItsSerial}
@@ -30,17 +30,17 @@ use Rattle.hx_status.specs.declared.cause.FailKind.{FailKind}
 use Rattle.hx_status.specs.declared.cause.FailKind.TheVariants.{BadAnswer}
 use Rattle.hx_storable.specs.declared.rule.StoreRule.{StoreRule}
 use Rattle.proxy_core.specs.declared.steps.condition.Condition.{Condition}
-use Rattle.proxy_core.specs.declared.replies.stored_reply.CacheStatusInfo.{CacheStatusInfo}
+use Rattle.proxy_core.specs.declared.replies.stored_reply.StoredCacheStatusInfo.{StoredCacheStatusInfo}
 use Rattle.proxy_core.specs.declared.open.exchange.Exchange.{Exchange}
-use Rattle.proxy_core.specs.declared.steps.fallback.Fallback.{Fallback}
-use Rattle.proxy_core.specs.declared.steps.fallback.Fallback.TheVariants.{Sends, Refuses}
+use Rattle.proxy_core.specs.declared.steps.fallback.FallbackDecision.{FallbackDecision}
+use Rattle.proxy_core.specs.declared.steps.fallback.FallbackDecision.TheVariants.{Sends, Refuses}
 use Rattle.proxy_core.specs.declared.outcome.Outcome.{Outcome}
 use Rattle.proxy_core.specs.declared.event.Event.{Event}
 use Rattle.proxy_core.specs.declared.event.Event.TheVariants.{Arrive, Answer, Fail, Wake, Abandon, Overdue}
-use Rattle.proxy_core.specs.Validating.{condition_about_serial, is_304_to_own_conditions, stored_response_validated, freshened_by_304}
+use Rattle.proxy_core.specs.Validating.{condition_to_revalidate_serial, is_304_to_own_conditions, stored_response_validated_by_304, freshened_by_304}
 use Rattle.proxy_core.specs.Storing.{storing_rule_to_explain, is_304_without_condition, is_storable, serials_replaced_by_storing, stored_response_made}
-use Rattle.proxy_core.specs.Awaiting.{awaited_by_request}
-use Rattle.proxy_core.specs.Outcomes.{find_exchange, exchange_id_of_event, outcome_of_sending_stored, revalidating_status_info, outcome_of_allowed_request, outcome_of_arrival, outcome_of_waiting_or_forwarding, outcome_without_stored_response, outcome_of_wake, is_only_if_cached, error_rule_for_serial, fallback_with_error_rule, fallback_for_failed_answer, outcome_of_failure, is_error_status, outcome_of_passing_on, outcome_of_passing_on_or_stale, outcome_of_304, outcome_of_answer, outcome_for_exchange}
+use Rattle.proxy_core.specs.Awaiting.{response_awaited_by_request}
+use Rattle.proxy_core.specs.Outcomes.{find_exchange, exchange_id_of_event, outcome_of_sending_stored, stale_while_revalidating_info, outcome_of_allowed_request, outcome_of_arrival, outcome_of_waiting_or_forwarding, outcome_where_reuse_rule_applies, outcome_of_wake, is_only_if_cached, error_rule_against_serial, fallback_by_error_rule, fallback_for_failed_answer, outcome_of_failure, is_stale_if_error_status, outcome_of_passing_on, outcome_of_passing_on_or_stale, outcome_of_304, outcome_of_answer, outcome_of_event_at_exchange}
 use Rattle.proxy_core.specs.State.{State, NoSerialIsHeldFrom, serial_stored_by_outcome, serial_used_by_outcome, serials_removed_by_outcome, stored_response_by_answer}
 use Rattle.proxy_core.specs.Traces.{Item, ItemIsAccepted}
 use Rattle.proxy_core.proofs.Leaving.{validated_is, serial_stays}
@@ -50,7 +50,7 @@ use Rattle.proxy_core.proofs.HeldEntries.{held_found, none_of_key}
 -- nothing is stored or used; a held response is used; an answer is stored under the next serial, which isn't removed
 pub data Kind (es : List Stored) (x : Option Exchange) (event : Event) (next st us : Option ℕ) (rm : List ℕ) : Type 0 where
   idle : st ≡ None → us ≡ None → Kind es x event next st us rm
-  uses : (s : ℕ) (e : Stored) → st ≡ None → us ≡ Some s → find_entry s es ≡ Some e → Kind es x event next st us rm
+  uses : (s : ℕ) (e : Stored) → st ≡ None → us ≡ Some s → find_entry_of_serial s es ≡ Some e → Kind es x event next st us rm
   stores : (s : ℕ) (e : Stored) → st ≡ Some s → us ≡ None → next ≡ Some s → stored_response_by_answer x event s ≡ Some e → e.serial ≡ s → serial_is_in s rm ≡ false →
       Kind es x event next st us rm
 
@@ -60,7 +60,7 @@ KindOf es x event next o = Kind es x event next (serial_stored_by_outcome o) (se
 -- ---- what is sent is held
 
 abbrev IsFound : List Stored → ℕ → Type 0
-IsFound es s = (e : Stored) × (find_entry s es ≡ Some e)
+IsFound es s = (e : Stored) × (find_entry_of_serial s es ≡ Some e)
 
 member_holds : (es : List Stored) (e : Stored) → IsMember e es → holds_serial e.serial es ≡ true
 member_holds [] e m = absurd m
@@ -99,29 +99,29 @@ same_sent m n c d h = cc
 -- ---- the kind of each outcome
 
 module _ (table : Table) (es : List Stored) (x : Option Exchange) (event : Event) (next : Option ℕ) where
-  kind_sent : (s now : ℕ) (info : CacheStatusInfo) (asked : Asked) → IsFound es s → KindOf es x event next (outcome_of_sending_stored table es s now info asked)
+  kind_sent : (s now : ℕ) (info : StoredCacheStatusInfo) (asked : Asked) → IsFound es s → KindOf es x event next (outcome_of_sending_stored table es s now info asked)
   unfolding KindOf
   kind_sent s now info asked f = uses s f.0 refl refl f.1
 
-  kind_sent_on : (line : RequestRoute) (asked : Asked) (condition : Option Condition) (leader : Option ℕ) → KindOf es x event next (outcome_of_waiting_or_forwarding table line asked condition leader)
+  kind_sent_on : (line : RouteOverLine) (asked : Asked) (condition : Option Condition) (leader : Option ℕ) → KindOf es x event next (outcome_of_waiting_or_forwarding table line asked condition leader)
   unfolding KindOf
   kind_sent_on line asked condition None = idle refl refl
   kind_sent_on line asked condition (Some leader) = idle refl refl
 
-  kind_unanswered : (xs : List Exchange) (line : RequestRoute) (now : ℕ) (asked : Asked) (rule : ReuseRule) (condition : Option Condition) (b : Bool) → KindOf es x event next (outcome_without_stored_response table es xs line now asked rule condition b)
+  kind_unanswered : (xs : List Exchange) (line : RouteOverLine) (now : ℕ) (asked : Asked) (rule : ReuseRule) (condition : Option Condition) (b : Bool) → KindOf es x event next (outcome_where_reuse_rule_applies table es xs line now asked rule condition b)
   unfolding KindOf
   kind_unanswered xs line now asked rule condition true = idle refl refl
   kind_unanswered xs line now asked rule condition false =
       unless_sent (KindOf es x event next) table es line now asked (sent_over table es xs line now asked rule) (outcome_of_waiting_or_forwarding table line asked condition (led_over table es xs line asked rule))
       (λ s h.
-      let is = sent_beside_is (policy_of table.lines line) es asked now s (awaited_by_request (policy_of table.lines line) es asked rule) (led_over table es xs line asked rule) h in
-      kind_sent s now (revalidating_status_info (policy_of table.lines line)) asked (is.response, is.found))
+      let is = sent_beside_is (policy_of table.lines line) es asked now s (response_awaited_by_request (policy_of table.lines line) es asked rule) (led_over table es xs line asked rule) h in
+      kind_sent s now (stale_while_revalidating_info (policy_of table.lines line)) asked (is.response, is.found))
       (kind_sent_on line asked condition (led_over table es xs line asked rule))
 
-  kind_allowed : (xs : List Exchange) (line : RequestRoute) (now : ℕ) (asked : Asked) (d : Decision) → ((s : ℕ) → d ≡ decision.Hit s → IsFound es s) → KindOf es x event next (outcome_of_allowed_request table es xs line now asked d)
+  kind_allowed : (xs : List Exchange) (line : RouteOverLine) (now : ℕ) (asked : Asked) (d : Decision) → ((s : ℕ) → d ≡ decision.Hit s → IsFound es s) → KindOf es x event next (outcome_of_allowed_request table es xs line now asked d)
   unfolding KindOf
   kind_allowed xs line now asked (decision.Hit s) f = let r = f s refl in uses s r.0 refl refl r.1
-  kind_allowed xs line now asked (decision.Forward rule against) f = kind_unanswered xs line now asked rule (condition_about_serial es against) (is_only_if_cached asked)
+  kind_allowed xs line now asked (decision.Forward rule against) f = kind_unanswered xs line now asked rule (condition_to_revalidate_serial es against) (is_only_if_cached asked)
 
   kind_arrived : (xs : List Exchange) (now : ℕ) (asked : Asked) (v : Verdict) → KindOf es x event next (outcome_of_arrival table es xs now asked v)
   unfolding KindOf
@@ -140,13 +140,13 @@ module _ (table : Table) (es : List Stored) (x : Option Exchange) (event : Event
   fallback_found : (policy : Policy) (asked : Asked) (now s : ℕ) (detail : Detail) (d : Decision) → decision_of policy es asked now ≡ d → fallback_for_failed_answer policy es asked now d ≡ Sends s detail → IsFound es s
   fallback_found policy asked now s detail (decision.Hit t) k h = subst (IsFound es) (same_sent t s ReuseAfterError detail h) (hit_found policy es asked now t k)
   fallback_found policy asked now s detail (decision.Forward rule None) k h = absurd (cc)
-  fallback_found policy asked now s detail (decision.Forward rule (Some t)) k h = by_rule (error_rule_for_serial policy es t asked now) h
+  fallback_found policy asked now s detail (decision.Forward rule (Some t)) k h = by_rule (error_rule_against_serial policy es t asked now) h
     where
-      by_rule : (o : Option ErrorRule) → fallback_with_error_rule rule t o ≡ Sends s detail → IsFound es s
+      by_rule : (o : Option ErrorRule) → fallback_by_error_rule rule t o ≡ Sends s detail → IsFound es s
       by_rule None h = subst (IsFound es) (same_sent t s StaleIfError detail h) (named_found policy es asked now t rule k)
       by_rule (Some error) h = absurd (cc)
 
-  kind_failed : (now : ℕ) (z : Exchange) (kind : FailKind) (came : Option ℕ) (fallback : Fallback) → ((s : ℕ) (detail : Detail) → fallback ≡ Sends s detail → IsFound es s) →
+  kind_failed : (now : ℕ) (z : Exchange) (kind : FailKind) (came : Option ℕ) (fallback : FallbackDecision) → ((s : ℕ) (detail : Detail) → fallback ≡ Sends s detail → IsFound es s) →
       KindOf es x event next (outcome_of_failure table es now z kind came fallback)
   unfolding KindOf
   kind_failed now z kind came (Sends s detail) f = let r = f s detail refl in uses s r.0 refl refl r.1
@@ -162,25 +162,25 @@ module _ (table : Table) (es : List Stored) (now id : ℕ) (x : Exchange) (r : R
   unfolding KindOf
   kind_passed rule true (Some s) k g =
       let none : serial_is_in s (serials_replaced_by_storing es x.asked) ≡ false =
-      is_in-filter s (λ serial. entry_matches_request x.asked.fields (find_entry serial es)) (serials_of_key x.asked.target.key es)
-      ∙ ap (λ b. b && entry_matches_request x.asked.fields (find_entry s es)) (none_of_key x.asked.target.key s es (g s (omega arith)))
+      is_in-filter s (λ serial. entry_vary_matches_request x.asked.fields (find_entry_of_serial serial es)) (serials_of_key x.asked.target.key es)
+      ∙ ap (λ b. b && entry_vary_matches_request x.asked.fields (find_entry_of_serial s es)) (none_of_key x.asked.target.key s es (g s (omega arith)))
       in
       stores s (stored_response_made s x r now) refl refl k refl refl none
   kind_passed rule true None k g = idle refl refl
   kind_passed rule false n k g = idle refl refl
 
-  kind_unless : (b : Bool) (fallback : Fallback) → NoSerialIsHeldFrom next es → ((s : ℕ) (detail : Detail) → fallback ≡ Sends s detail → IsFound es s) →
+  kind_unless : (b : Bool) (fallback : FallbackDecision) → NoSerialIsHeldFrom next es → ((s : ℕ) (detail : Detail) → fallback ≡ Sends s detail → IsFound es s) →
       KindOf es (Some x) (Answer now id r) next (outcome_of_passing_on_or_stale table es now x r next b fallback)
   unfolding KindOf
   kind_unless true (Sends s detail) g f = let r = f s detail refl in uses s r.0 refl refl r.1
   kind_unless true (Refuses rule error) g f = kind_passed (storing_rule_to_explain table x r now next) (is_storable table x r now next) next refl g
   kind_unless false fallback g f = kind_passed (storing_rule_to_explain table x r now next) (is_storable table x r now next) next refl g
 
-  kind_revalidated : (o : Option Stored) (d : Decision) → stored_response_validated es x r now ≡ o → decision_of (policy_of table.lines x.line) es x.asked now ≡ d →
+  kind_revalidated : (o : Option Stored) (d : Decision) → stored_response_validated_by_304 es x r now ≡ o → decision_of (policy_of table.lines x.line) es x.asked now ≡ d →
       KindOf es (Some x) (Answer now id r) next (outcome_of_304 table es now x r o d)
   unfolding KindOf
   kind_revalidated (Some e) d v k =
-      uses (freshened_by_304 x r now e).serial e refl refl (ap (λ s. find_entry s es) (serial_stays x r now e) ∙ (validated_is es x r now e v).found)
+      uses (freshened_by_304 x r now e).serial e refl refl (ap (λ s. find_entry_of_serial s es) (serial_stays x r now e) ∙ (validated_is es x r now e v).found)
   kind_revalidated None (decision.Hit s) v k = let f = hit_found (policy_of table.lines x.line) es x.asked now s k in uses s f.0 refl refl f.1
   kind_revalidated None (decision.Forward rule against) v k = idle refl refl
 
@@ -194,18 +194,18 @@ module _ (table : Table) (es : List Stored) (now id : ℕ) (x : Exchange) (r : R
       found s detail h = fallback_found table es (Some x) (Answer now id r) next (policy_of table.lines x.line) x.asked now s detail (decision_of (policy_of table.lines x.line) es x.asked now) refl h
 
       by_unasked : (b : Bool) → KindOf es (Some x) (Answer now id r) next (cond b (outcome_of_failure table es now x BadAnswer (Some r.status) (fallback_for_failed_answer (policy_of table.lines x.line) es x.asked now (decision_of (policy_of table.lines x.line) es x.asked now)))
-          (outcome_of_passing_on_or_stale table es now x r next (is_error_status r.status) (fallback_for_failed_answer (policy_of table.lines x.line) es x.asked now (decision_of (policy_of table.lines x.line) es x.asked now))))
+          (outcome_of_passing_on_or_stale table es now x r next (is_stale_if_error_status r.status) (fallback_for_failed_answer (policy_of table.lines x.line) es x.asked now (decision_of (policy_of table.lines x.line) es x.asked now))))
       by_unasked true = kind_failed table es (Some x) (Answer now id r) next now x BadAnswer (Some r.status) (fallback_for_failed_answer (policy_of table.lines x.line) es x.asked now (decision_of (policy_of table.lines x.line) es x.asked now)) found
-      by_unasked false = kind_unless (is_error_status r.status) (fallback_for_failed_answer (policy_of table.lines x.line) es x.asked now (decision_of (policy_of table.lines x.line) es x.asked now)) g found
+      by_unasked false = kind_unless (is_stale_if_error_status r.status) (fallback_for_failed_answer (policy_of table.lines x.line) es x.asked now (decision_of (policy_of table.lines x.line) es x.asked now)) g found
 
-      by_304 : (b : Bool) → KindOf es (Some x) (Answer now id r) next (cond b (outcome_of_304 table es now x r (stored_response_validated es x r now) (decision_of (policy_of table.lines x.line) es x.asked now))
+      by_304 : (b : Bool) → KindOf es (Some x) (Answer now id r) next (cond b (outcome_of_304 table es now x r (stored_response_validated_by_304 es x r now) (decision_of (policy_of table.lines x.line) es x.asked now))
           (cond (is_304_without_condition (policy_of table.lines x.line) x.asked r) (outcome_of_failure table es now x BadAnswer (Some r.status) (fallback_for_failed_answer (policy_of table.lines x.line) es x.asked now (decision_of (policy_of table.lines x.line) es x.asked now)))
-          (outcome_of_passing_on_or_stale table es now x r next (is_error_status r.status) (fallback_for_failed_answer (policy_of table.lines x.line) es x.asked now (decision_of (policy_of table.lines x.line) es x.asked now)))))
-      by_304 true = kind_revalidated (stored_response_validated es x r now) (decision_of (policy_of table.lines x.line) es x.asked now) refl refl
+          (outcome_of_passing_on_or_stale table es now x r next (is_stale_if_error_status r.status) (fallback_for_failed_answer (policy_of table.lines x.line) es x.asked now (decision_of (policy_of table.lines x.line) es x.asked now)))))
+      by_304 true = kind_revalidated (stored_response_validated_by_304 es x r now) (decision_of (policy_of table.lines x.line) es x.asked now) refl refl
       by_304 false = by_unasked (is_304_without_condition (policy_of table.lines x.line) x.asked r)
 
 kind_of : (table : Table) (es : List Stored) (xs : List Exchange) (x : Option Exchange) (event : Event) (next : Option ℕ) → NoSerialIsHeldFrom next es →
-    KindOf es x event next (outcome_for_exchange table es xs x next event)
+    KindOf es x event next (outcome_of_event_at_exchange table es xs x next event)
 unfolding KindOf
 kind_of table es xs x (Arrive now id asked) next h = kind_arrived table es x (Arrive now id asked) next xs now asked (verdict_of_asked table asked)
 kind_of table es xs (Some x) (Answer now id r) next h = kind_answered table es now id x r next h

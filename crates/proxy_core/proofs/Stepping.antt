@@ -25,14 +25,14 @@ use Rattle.proxy_core.specs.declared.replies.pending.PendingReply.{PendingReply}
 use Rattle.proxy_core.specs.declared.core_fault.CoreFault.{CoreFault}
 use Rattle.proxy_core.specs.Moments.{moment_too_late_fault}
 use Rattle.proxy_core.specs.Storing.{key_invalidated}
-use Rattle.proxy_core.specs.Outcomes.{find_exchange, fault_else, fault_if_not_forwarded, fault_if_not_released, fault_at_exchange, outcome_for_exchange, outcome_of_arrival, fallback_for_failed_answer, outcome_of_failure, outcome_of_answer, outcome_of_wake, forward_text}
+use Rattle.proxy_core.specs.Outcomes.{find_exchange, fault_else, fault_if_not_forwarded, fault_if_not_released, fault_at_exchange, outcome_of_event_at_exchange, outcome_of_arrival, fallback_for_failed_answer, outcome_of_failure, outcome_of_answer, outcome_of_wake, forward_text}
 use Rattle.hx_reuse.specs.declared.rule.ReuseRule.{ReuseRule}
 use Rattle.hx_reuse.specs.declared.decision.Decision.{Decision}
 use Rattle.hx_reuse.specs.declared.decision.Decision.TheVariants as decision
-use Rattle.proxy_core.specs.Validating.{condition_about_serial}
+use Rattle.proxy_core.specs.Validating.{condition_to_revalidate_serial}
 use Rattle.proxy_core.specs.Scopes.{Scope, scope_of_target_alone}
-use Rattle.proxy_core.specs.State.{State, StepIsAccepted, state_after_event, entries_without_serials, entries_after_event, bounds_of, exchanges_after_end, scope_invalidated_by_response, next_serial_after, exchange_forwarded_again, exchange_sent_forward, exchanges_after_wake, rule_of_decision, serial_named_by_decision}
-use Rattle.proxy_core.specs.Pending.{serial_stored_by_change, outcome_of_pending_reply, state_after_reply, ChangeStoresNothing, ReplyLeavesHeldAsStepDoes}
+use Rattle.proxy_core.specs.State.{State, StepIsAccepted, state_after_event, entries_without_serials, entries_after_event, bounds_of, exchanges_after_exchange_end, target_invalidated_by_response, next_serial_after_storing, exchange_after_second_forward, exchange_sent_forward_if_of_id, exchanges_after_wake, rule_of_decision, serial_named_by_rule_of_decision}
+use Rattle.proxy_core.specs.Pending.{serial_stored_by_change, outcome_of_pending_reply, state_after_reply, ChangeOnlyKeepsOrUses, HeldAfterReplyIsThatOfStep}
 use Rattle.proxy_core.specs.Waking.{AfterWakeMatchesDecision}
 use Rattle.proxy_core.specs.declared.steps.waking.AfterWake.TheVariants.{Ends}
 use Rattle.proxy_core.proofs.Leaving.{fail_leaves, wake_leaves}
@@ -75,61 +75,61 @@ module _ (s : State) (now id : ℕ) (early : moment_too_late_fault now ≡ None)
 
   -- an exchange that an answer ends
   pub answer_done : (x : Exchange) (r : Response) (pending : PendingReply) (gone : Option Key) (o : Outcome) (t : State) → find_exchange id s.exchanges ≡ Some x → fault_if_not_forwarded x.stage ≡ None
-      → outcome_of_pending_reply pending ≡ outcome_of_answer s.table s.entries now x r s.next (decision_of (policy_of s.table.lines x.line) s.entries x.asked now) → ReplyLeavesHeldAsStepDoes (bounds_of s.table s.limit) s.entries x (Answer now x.id r) pending
+      → outcome_of_pending_reply pending ≡ outcome_of_answer s.table s.entries now x r s.next (decision_of (policy_of s.table.lines x.line) s.entries x.asked now) → HeldAfterReplyIsThatOfStep (bounds_of s.table s.limit) s.entries x (Answer now x.id r) pending
       → gone ≡ key_invalidated x r → o ≡ outcome_of_pending_reply pending → t ≡ state_after_reply s id pending gone → StepIsAccepted s (Answer now id r) o t
   answer_done x r pending gone o t here stage reply leaves gone_is is t_is =
-      let next = next_serial_after s.next (serial_stored_by_change pending.change) in
+      let next = next_serial_after_storing s.next (serial_stored_by_change pending.change) in
       let event : Event = Answer now id r in
-      let left : ReplyLeavesHeldAsStepDoes (bounds_of s.table s.limit) s.entries x event pending = subst (λ (k : ℕ). ReplyLeavesHeldAsStepDoes (bounds_of s.table s.limit) s.entries x (Answer now k r) pending) (find_id id s.exchanges x here) leaves in
+      let left : HeldAfterReplyIsThatOfStep (bounds_of s.table s.limit) s.entries x event pending = subst (λ (k : ℕ). HeldAfterReplyIsThatOfStep (bounds_of s.table s.limit) s.entries x (Answer now k r) pending) (find_id id s.exchanges x here) leaves in
       record {
         allowed = ap (λ (x : Option Exchange). fault_at_exchange x event) here ∙ (ap (λ (a : Option CoreFault). fault_else a (fault_if_not_forwarded x.stage)) early ∙ stage);
-        outcome_is = is ∙ (reply ∙ ap (λ (x : Option Exchange). outcome_for_exchange s.table s.entries s.exchanges x s.next event) (sym here));
+        outcome_is = is ∙ (reply ∙ ap (λ (x : Option Exchange). outcome_of_event_at_exchange s.table s.entries s.exchanges x s.next event) (sym here));
         leaves = t_is
-            ∙ (ap (λ (es : List Stored). st s.table s.limit es (exchanges_after_end (option_map scope_of_target_alone gone) id s.exchanges) next)
+            ∙ (ap (λ (es : List Stored). st s.table s.limit es (exchanges_after_exchange_end (option_map scope_of_target_alone gone) id s.exchanges) next)
             (left ∙ ap (λ (y : Option Exchange). entries_after_event (bounds_of s.table s.limit) s.entries y event (outcome_of_pending_reply pending)) (sym here))
-            ∙ (ap (λ (key : Option Scope). st s.table s.limit (entries_after_event (bounds_of s.table s.limit) s.entries (find_exchange id s.exchanges) event (outcome_of_pending_reply pending)) (exchanges_after_end key id s.exchanges) next)
-            (ap (option_map scope_of_target_alone) gone_is ∙ ap (λ (y : Option Exchange). scope_invalidated_by_response y r) (sym here))
+            ∙ (ap (λ (key : Option Scope). st s.table s.limit (entries_after_event (bounds_of s.table s.limit) s.entries (find_exchange id s.exchanges) event (outcome_of_pending_reply pending)) (exchanges_after_exchange_end key id s.exchanges) next)
+            (ap (option_map scope_of_target_alone) gone_is ∙ ap (λ (y : Option Exchange). target_invalidated_by_response y r) (sym here))
             ∙ ap (λ (q : Outcome). state_after_event s event q) (sym is)));
       }
 
   -- one whose request goes forward once more
   pub answer_again : (x : Exchange) (r : Response) (bytes : List ℕ) (o : Outcome) (t : State) → find_exchange id s.exchanges ≡ Some x → fault_if_not_forwarded x.stage ≡ None
       → Forward x.line bytes ≡ outcome_of_answer s.table s.entries now x r s.next (decision_of (policy_of s.table.lines x.line) s.entries x.asked now)
-      → o ≡ Forward x.line bytes → t ≡ st s.table s.limit s.entries (map (exchange_forwarded_again id now) s.exchanges) s.next → StepIsAccepted s (Answer now id r) o t
+      → o ≡ Forward x.line bytes → t ≡ st s.table s.limit s.entries (map (exchange_after_second_forward id now) s.exchanges) s.next → StepIsAccepted s (Answer now id r) o t
   answer_again x r bytes o t here stage forward is t_is =
       let event : Event = Answer now id r in
       record {
         allowed = ap (λ (x : Option Exchange). fault_at_exchange x event) here ∙ (ap (λ (a : Option CoreFault). fault_else a (fault_if_not_forwarded x.stage)) early ∙ stage);
-        outcome_is = is ∙ (forward ∙ ap (λ (x : Option Exchange). outcome_for_exchange s.table s.entries s.exchanges x s.next event) (sym here));
+        outcome_is = is ∙ (forward ∙ ap (λ (x : Option Exchange). outcome_of_event_at_exchange s.table s.entries s.exchanges x s.next event) (sym here));
         leaves = t_is ∙ ap (λ (q : Outcome). state_after_event s event q) (sym is);
       }
 
   -- and one that failed
   pub fail_done : (x : Exchange) (kind : FailKind) (pending : PendingReply) (o : Outcome) (t : State) → find_exchange id s.exchanges ≡ Some x → fault_if_not_forwarded x.stage ≡ None
-      → outcome_of_pending_reply pending ≡ outcome_of_failure s.table s.entries now x kind None (fallback_for_failed_answer (policy_of s.table.lines x.line) s.entries x.asked now (decision_of (policy_of s.table.lines x.line) s.entries x.asked now)) → ChangeStoresNothing pending.change
+      → outcome_of_pending_reply pending ≡ outcome_of_failure s.table s.entries now x kind None (fallback_for_failed_answer (policy_of s.table.lines x.line) s.entries x.asked now (decision_of (policy_of s.table.lines x.line) s.entries x.asked now)) → ChangeOnlyKeepsOrUses pending.change
       → o ≡ outcome_of_pending_reply pending → t ≡ state_after_reply s id pending None → StepIsAccepted s (Fail now id kind) o t
   fail_done x kind pending o t here stage reply plain is t_is =
       let event : Event = Fail now id kind in
       record {
         allowed = ap (λ (x : Option Exchange). fault_at_exchange x event) here ∙ (ap (λ (a : Option CoreFault). fault_else a (fault_if_not_forwarded x.stage)) early ∙ stage);
-        outcome_is = is ∙ (reply ∙ ap (λ (x : Option Exchange). outcome_for_exchange s.table s.entries s.exchanges x s.next event) (sym here));
+        outcome_is = is ∙ (reply ∙ ap (λ (x : Option Exchange). outcome_of_event_at_exchange s.table s.entries s.exchanges x s.next event) (sym here));
         leaves = t_is
-            ∙ (ap (λ (es : List Stored). st s.table s.limit es (exchanges_after_end None id s.exchanges) (next_serial_after s.next (serial_stored_by_change pending.change)))
+            ∙ (ap (λ (es : List Stored). st s.table s.limit es (exchanges_after_exchange_end None id s.exchanges) (next_serial_after_storing s.next (serial_stored_by_change pending.change)))
             (fail_leaves (bounds_of s.table s.limit) s.entries x now id kind pending plain ∙ ap (λ (y : Option Exchange). entries_after_event (bounds_of s.table s.limit) s.entries y event (outcome_of_pending_reply pending)) (sym here))
             ∙ ap (λ (q : Outcome). state_after_event s event q) (sym is));
       }
 
   -- a request that waited is answered from the store
   pub wake_done : (x : Exchange) (pending : PendingReply) (o : Outcome) (t : State) → find_exchange id s.exchanges ≡ Some x → fault_if_not_released x.stage ≡ None
-      → outcome_of_pending_reply pending ≡ outcome_of_wake s.table s.entries now x (decision_of (policy_of s.table.lines x.line) s.entries x.asked now) → ChangeStoresNothing pending.change
+      → outcome_of_pending_reply pending ≡ outcome_of_wake s.table s.entries now x (decision_of (policy_of s.table.lines x.line) s.entries x.asked now) → ChangeOnlyKeepsOrUses pending.change
       → o ≡ outcome_of_pending_reply pending → t ≡ state_after_reply s id pending None → StepIsAccepted s (Wake now id) o t
   wake_done x pending o t here stage reply plain is t_is =
       let event : Event = Wake now id in
       record {
         allowed = ap (λ (x : Option Exchange). fault_at_exchange x event) here ∙ (ap (λ (a : Option CoreFault). fault_else a (fault_if_not_released x.stage)) early ∙ stage);
-        outcome_is = is ∙ (reply ∙ ap (λ (x : Option Exchange). outcome_for_exchange s.table s.entries s.exchanges x s.next event) (sym here));
+        outcome_is = is ∙ (reply ∙ ap (λ (x : Option Exchange). outcome_of_event_at_exchange s.table s.entries s.exchanges x s.next event) (sym here));
         leaves = t_is
-            ∙ (ap (λ (es : List Stored). st s.table s.limit es (exchanges_after_end None id s.exchanges) (next_serial_after s.next (serial_stored_by_change pending.change)))
+            ∙ (ap (λ (es : List Stored). st s.table s.limit es (exchanges_after_exchange_end None id s.exchanges) (next_serial_after_storing s.next (serial_stored_by_change pending.change)))
             (wake_leaves (bounds_of s.table s.limit) s.entries x now id pending plain ∙ ap (λ (y : Option Exchange). entries_after_event (bounds_of s.table s.limit) s.entries y event (outcome_of_pending_reply pending)) (sym here))
             ∙ ap (λ (q : Outcome). state_after_event s event q) (sym is));
       }
@@ -147,15 +147,15 @@ module _ (s : State) (now id : ℕ) (early : moment_too_late_fault now ≡ None)
   -- or goes forward
   pub wake_out : (x : Exchange) (rule : ReuseRule) (against : Option ℕ) (o : Outcome) (t : State) → find_exchange id s.exchanges ≡ Some x → fault_if_not_released x.stage ≡ None
       → decision_of (policy_of s.table.lines x.line) s.entries x.asked now ≡ decision.Forward rule against
-      → o ≡ Forward x.line (forward_text s.table x.line x.asked (condition_about_serial s.entries against))
-      → t ≡ st s.table s.limit s.entries (map (exchange_sent_forward id now rule against (condition_about_serial s.entries against)) s.exchanges) s.next → StepIsAccepted s (Wake now id) o t
+      → o ≡ Forward x.line (forward_text s.table x.line x.asked (condition_to_revalidate_serial s.entries against))
+      → t ≡ st s.table s.limit s.entries (map (exchange_sent_forward_if_of_id id now rule against (condition_to_revalidate_serial s.entries against)) s.exchanges) s.next → StepIsAccepted s (Wake now id) o t
   wake_out x rule against o t here stage d is t_is =
       let event : Event = Wake now id in
       record {
         allowed = ap (λ (x : Option Exchange). fault_at_exchange x event) here ∙ (ap (λ (a : Option CoreFault). fault_else a (fault_if_not_released x.stage)) early ∙ stage);
-        outcome_is = is ∙ (ap (λ (d : Decision). outcome_of_wake s.table s.entries now x d) (sym d) ∙ ap (λ (x : Option Exchange). outcome_for_exchange s.table s.entries s.exchanges x s.next event) (sym here));
+        outcome_is = is ∙ (ap (λ (d : Decision). outcome_of_wake s.table s.entries now x d) (sym d) ∙ ap (λ (x : Option Exchange). outcome_of_event_at_exchange s.table s.entries s.exchanges x s.next event) (sym here));
         leaves = t_is
-            ∙ (ap (λ (d : Decision). st s.table s.limit s.entries (map (exchange_sent_forward id now (rule_of_decision d) (serial_named_by_decision d) (condition_about_serial s.entries (serial_named_by_decision d))) s.exchanges) s.next) (sym d)
+            ∙ (ap (λ (d : Decision). st s.table s.limit s.entries (map (exchange_sent_forward_if_of_id id now (rule_of_decision d) (serial_named_by_rule_of_decision d) (condition_to_revalidate_serial s.entries (serial_named_by_rule_of_decision d))) s.exchanges) s.next) (sym d)
             ∙ (ap (λ (w : Option Exchange). st s.table s.limit s.entries (exchanges_after_wake s.table s.entries id now w s.exchanges) s.next) (sym here)
             ∙ ap (λ (q : Outcome). state_after_event s event q) (sym is)));
       }

@@ -2,11 +2,11 @@
 use Rattle.std.proofs.Common.{◌≡◌, ℕ, Bool, true, false, cond, Option, None, Some, is_none, refl, sym, subst}
 use Rattle.std.specs.Prelude.{Result, IfOk}
 use Rattle.hx_framing.specs.declared.messages.Response.{Response}
-use Rattle.hx_vary.specs.Vary.{vary_is_star}
+use Rattle.hx_vary.specs.Vary.{vary_counts_as_star}
 use Rattle.hx_hop.specs.Answering.{answered_of}
 use Rattle.hx_allow.specs.TableLines.{Table}
-use Rattle.hx_storable.specs.Rules.{storage_rule_of}
-use Rattle.hx_storable.specs.Storable.{StoredExactlyWhereNoRuleApplies}
+use Rattle.hx_storable.specs.Rules.{rule_against_storing}
+use Rattle.hx_storable.specs.Storable.{StoredOnlyWhereNoRuleApplies}
 use Rattle.hx_storable.specs.declared.rule.StoreRule.{StoreRule}
 use Rattle.hx_storable.specs.declared.rule.StoreRule.TheVariants.{VaryStar}
 use Rattle.proxy_core.specs.declared.open.exchange.Exchange.{Exchange}
@@ -19,12 +19,12 @@ none_of None h = refl
 none_of (Some rule) h = cc
 
 -- what nominates nothing that can be compared isn't stored
-pub no_star : StoredExactlyWhereNoRuleApplies → (table : Table) (x : Exchange) (r : Response) (now : ℕ) (next : Option ℕ) → is_storable table x r now next ≡ true
-    → vary_is_star (answered_of r now).fields ≡ true → ⊥
+pub no_star : StoredOnlyWhereNoRuleApplies → (table : Table) (x : Exchange) (r : Response) (now : ℕ) (next : Option ℕ) → is_storable table x r now next ≡ true
+    → vary_counts_as_star (answered_of r now).fields ≡ true → ⊥
 no_star law table x r now next storable star =
     let a = answered_of r now in
     let facts = storing_facts_of_answer table x r now next in
-    let unstarred : vary_is_star a.fields ≡ false = law x.asked a facts VaryStar (none_of (storage_rule_of x.asked a facts) storable) in
+    let unstarred : vary_counts_as_star a.fields ≡ false = law x.asked a facts VaryStar (none_of (rule_against_storing x.asked a facts) storable) in
     cc
 
 -- the serial that is given is the next

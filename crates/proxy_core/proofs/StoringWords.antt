@@ -13,14 +13,14 @@ use Rattle.hx_directives.specs.declared.names.Directive.TheVariants.{MaxAge, SMa
 use Rattle.hx_age.specs.declared.lifetimes.Lifetime.{Lifetime}
 use Rattle.hx_age.specs.Lifetime.{explicit_lifetime, lifetime_of, seconds_or_zero, seconds_from_date_to_expires}
 use Rattle.hx_vary.specs.declared.limits.TheConstants.{MOST_VARY_NAMES}
-use Rattle.hx_vary.specs.Vary.{exceeds_most_vary_names, vary_is_star, is_star_member, vary_names}
-use Rattle.hx_hop.specs.Stripping.{caching_field_names, connection_names, lists_cache_field}
+use Rattle.hx_vary.specs.Vary.{exceeds_most_vary_names, vary_counts_as_star, is_star_member, vary_names}
+use Rattle.hx_hop.specs.Stripping.{caching_field_names, connection_has_option, connection_names_caching_field}
 use Rattle.hx_policy.specs.Policies.{lifetime_given_by_policy}
 use Rattle.hx_policy.specs.declared.words.Policy.{Policy}
 use Rattle.hx_reuse.specs.Lifetimes.{lifetime_capped_at, lifetime_or_given_by_operator, lifetime_under_policy}
 use Rattle.hx_validate.specs.Validators.{has_validator, date_validator, etag_validator}
 use Rattle.proxy_core.specs.Validating.{weight_exceeds_optional_bound}
-use Rattle.proxy_core.specs.StoredAnswers.{ResponseCanBeReused, ConnectionRemovedNoCachingField, VaryNamesFields}
+use Rattle.proxy_core.specs.StoredAnswers.{ResponseHasLifetimeOrValidator, ConnectionRemovedNoCachingField, VaryHasOnlyFieldNames}
 
 neither : (a b : Bool) → a || b ≡ false → (a ≡ false) × (b ≡ false)
 neither true b h = absurd cc
@@ -55,10 +55,10 @@ few_names names h = grind (arith, nat_tests)
 not_many : (names : List (List ℕ)) → exceeds_most_vary_names names ≡ false → length names ≤ MOST_VARY_NAMES
 not_many names h = grind (arith, nat_tests)
 
-pub star_absent : (fields : List Field) → VaryNamesFields fields → vary_is_star fields ≡ false
+pub star_absent : (fields : List Field) → VaryHasOnlyFieldNames fields → vary_counts_as_star fields ≡ false
 star_absent fields all = ap (λ b. b || list_any is_star_member (vary_names fields)) (few_names (vary_names fields) all.0) ∙ no_star (vary_names fields) all.1
 
-pub fields_named : (fields : List Field) → vary_is_star fields ≡ false → VaryNamesFields fields
+pub fields_named : (fields : List Field) → vary_counts_as_star fields ≡ false → VaryHasOnlyFieldNames fields
 fields_named fields h =
     let parts = neither (exceeds_most_vary_names (vary_names fields)) (list_any is_star_member (vary_names fields)) h in
     (not_many (vary_names fields) parts.0, names_each (vary_names fields) parts.1)
@@ -66,21 +66,21 @@ fields_named fields h =
 -- ---- Connection
 
 module _ (received : List Field) where
-  none_listed : (names : List (List ℕ)) → All (λ name. connection_names received name ≡ false) names → list_any (connection_names received) names ≡ false
+  none_listed : (names : List (List ℕ)) → All (λ name. connection_has_option received name ≡ false) names → list_any (connection_has_option received) names ≡ false
   none_listed [] all = refl
   none_listed (n ∷ names) all =
-      rw (All-head (λ name. connection_names received name ≡ false) n names all) (none_listed names (All-tail (λ name. connection_names received name ≡ false) n names all))
+      rw (All-head (λ name. connection_has_option received name ≡ false) n names all) (none_listed names (All-tail (λ name. connection_has_option received name ≡ false) n names all))
 
-  each_kept : (names : List (List ℕ)) → list_any (connection_names received) names ≡ false → All (λ name. connection_names received name ≡ false) names
-  each_kept [] h = All-nil (λ name. connection_names received name ≡ false)
+  each_kept : (names : List (List ℕ)) → list_any (connection_has_option received) names ≡ false → All (λ name. connection_has_option received name ≡ false) names
+  each_kept [] h = All-nil (λ name. connection_has_option received name ≡ false)
   each_kept (n ∷ names) h =
-      let parts = neither (connection_names received n) (list_any (connection_names received) names) h in
-      All-cons (λ name. connection_names received name ≡ false) n names parts.0 (each_kept names parts.1)
+      let parts = neither (connection_has_option received n) (list_any (connection_has_option received) names) h in
+      All-cons (λ name. connection_has_option received name ≡ false) n names parts.0 (each_kept names parts.1)
 
-  pub lists_none : ConnectionRemovedNoCachingField received → lists_cache_field received ≡ false
+  pub lists_none : ConnectionRemovedNoCachingField received → connection_names_caching_field received ≡ false
   lists_none all = none_listed caching_field_names all
 
-  pub keeps_all : lists_cache_field received ≡ false → ConnectionRemovedNoCachingField received
+  pub keeps_all : connection_names_caching_field received ≡ false → ConnectionRemovedNoCachingField received
   keeps_all h = each_kept caching_field_names h
 
 -- ---- lifetimes and validators
@@ -127,27 +127,27 @@ module _ (fields : List Field) where
       (seconds_or_zero (seconds_of_directive (occurrences_of fields) SMaxage)) (seconds_or_zero (seconds_of_directive (occurrences_of fields) MaxAge)) (seconds_from_date_to_expires fields) h
 
   module _ (policy : Policy) (status : ℕ) where
-    pub can_be_reused : ((lifetime_under_policy policy status fields).explicit ≡ true) ⊎ (has_validator fields ≡ true) → ResponseCanBeReused policy status fields
+    pub can_be_reused : ((lifetime_under_policy policy status fields).explicit ≡ true) ⊎ (has_validator fields ≡ true) → ResponseHasLifetimeOrValidator policy status fields
     can_be_reused (inl h) = of_either (explicit_under (lifetime_of fields) (lifetime_of fields).explicit refl policy.lifetime_most (lifetime_given_by_policy policy status) h)
       where
-        of_lifetime : (directive_occurs (occurrences_of fields) SMaxage ≡ true) ⊎ ((directive_occurs (occurrences_of fields) MaxAge ≡ true) ⊎ (has_line fields (codes "Expires") ≡ true)) → ResponseCanBeReused policy status fields
+        of_lifetime : (directive_occurs (occurrences_of fields) SMaxage ≡ true) ⊎ ((directive_occurs (occurrences_of fields) MaxAge ≡ true) ⊎ (has_line fields (codes "Expires") ≡ true)) → ResponseHasLifetimeOrValidator policy status fields
         of_lifetime (inl s) = inl s
         of_lifetime (inr (inl m)) = inr (inl m)
         of_lifetime (inr (inr e)) = inr (inr (inl e))
 
-        of_either : ((lifetime_of fields).explicit ≡ true) ⊎ (is_some (lifetime_given_by_policy policy status) ≡ true) → ResponseCanBeReused policy status fields
+        of_either : ((lifetime_of fields).explicit ≡ true) ⊎ (is_some (lifetime_given_by_policy policy status) ≡ true) → ResponseHasLifetimeOrValidator policy status fields
         of_either (inl stated) = of_lifetime (lasts stated)
         of_either (inr lifetime_or_given_by_operator) = inr (inr (inr (inr (inr lifetime_or_given_by_operator))))
     can_be_reused (inr h) = of_validator (one_of (is_some (etag_validator fields)) (is_some (date_validator fields)) h)
       where
-        of_validator : (is_some (etag_validator fields) ≡ true) ⊎ (is_some (date_validator fields) ≡ true) → ResponseCanBeReused policy status fields
+        of_validator : (is_some (etag_validator fields) ≡ true) ⊎ (is_some (date_validator fields) ≡ true) → ResponseHasLifetimeOrValidator policy status fields
         of_validator (inl t) = inr (inr (inr (inl t)))
         of_validator (inr m) = inr (inr (inr (inr (inl m))))
 
     stated_lasts : (lifetime_of fields).explicit ≡ true → (lifetime_under_policy policy status fields).explicit ≡ true
     stated_lasts h = under_explicit (lifetime_of fields) (lifetime_of fields).explicit refl policy.lifetime_most (lifetime_given_by_policy policy status) (inl h)
 
-    pub lasts_or_validates : ResponseCanBeReused policy status fields → ((lifetime_under_policy policy status fields).explicit ≡ true) ⊎ (has_validator fields ≡ true)
+    pub lasts_or_validates : ResponseHasLifetimeOrValidator policy status fields → ((lifetime_under_policy policy status fields).explicit ≡ true) ⊎ (has_validator fields ≡ true)
     lasts_or_validates (inl s) = inl (stated_lasts (lasting (inl s)))
     lasts_or_validates (inr (inl m)) = inl (stated_lasts (lasting (inr (inl m))))
     lasts_or_validates (inr (inr (inl e))) = inl (stated_lasts (lasting (inr (inr e))))
@@ -165,8 +165,8 @@ module _ (fields : List Field) where
 pub fits_in : (most n : ℕ) → n ≤ most → nat_lt most n ≡ false
 fits_in most n h = grind (arith, nat_tests, h)
 
-pub may_be_released : (most n : ℕ) → nat_lt most n ≡ false → n ≤ most
-may_be_released most n h = grind (arith, nat_tests, h)
+pub arrival_may_be_released : (most n : ℕ) → nat_lt most n ≡ false → n ≤ most
+arrival_may_be_released most n h = grind (arith, nat_tests, h)
 
 -- what fits a bound isn't above it, and what isn't above it fits
 pub not_above : (bound : Option ℕ) (weight : ℕ) → IfSome bound (λ most. weight ≤ most) → weight_exceeds_optional_bound bound weight ≡ false
@@ -175,7 +175,7 @@ not_above (Some most) weight h = fits_in most weight h
 
 pub within_bound : (bound : Option ℕ) (weight : ℕ) → weight_exceeds_optional_bound bound weight ≡ false → IfSome bound (λ most. weight ≤ most)
 within_bound None weight h = tt
-within_bound (Some most) weight h = may_be_released most weight h
+within_bound (Some most) weight h = arrival_may_be_released most weight h
 
 pub some_left : (next : Option ℕ) → is_none next ≡ false → is_some next ≡ true
 some_left None h = absurd cc

@@ -9,21 +9,21 @@ use Rattle.hx_policy.specs.declared.words.Policy.{Policy}
 use Rattle.hx_store.specs.Stored.{Stored}
 use Rattle.hx_status.specs.Refusals.{refusal_text}
 use Rattle.hx_storable.specs.declared.rule.StoreRule.{StoreRule}
-use Rattle.hx_validate.specs.NotModified.{fields_of_304, fields_of_304_to_answer, stored_gets_304}
+use Rattle.hx_validate.specs.NotModified.{fields_of_304, fields_of_304_from_answer, stored_gets_304}
 use Rattle.hx_validate.specs.Room.{head_leaves_room}
 use Rattle.hx_validate.specs.declared.ranges.RangeAnswer.{RangeAnswer}
 use Rattle.hx_validate.specs.declared.ranges.RangeAnswer.TheVariants.{Whole, Part, Unsatisfiable}
 use Rattle.proxy_core.specs.declared.open.exchange.Exchange.{Exchange}
-use Rattle.proxy_core.specs.declared.replies.stored_reply.CacheStatusInfo.{CacheStatusInfo}
-use Rattle.proxy_core.specs.Abouts.{about_answer_in_range, about_in_place_of_answer, about_stored_response_sent, about_answer_passed_whole, BytesShowReportedStatusAndLine, PassedAnswerShowsStatusAndCacheStatus, PurgeReplyShowsStatusAndCount, RefusalShowsStatusAndCause, StoredReplyShowsStatusAndCacheStatus}
-use Rattle.proxy_core.specs.Replies.{answer_in_range_text, client_wants_304_for_answer, content_unless_head, fields_of_answer_416, fields_of_partial_answer, stored_response_as_sent, is_head, length_of_passed_answer, length_unless_forbidden, line, not_modified_answer_text, not_modified_text, range_of_answer, text_of_stored_in_form, text_in_place_of_answer, whole_answer_text, fields_without_hidden_tags}
-use Rattle.proxy_core.specs.Validating.{without_cookies}
+use Rattle.proxy_core.specs.declared.replies.stored_reply.StoredCacheStatusInfo.{StoredCacheStatusInfo}
+use Rattle.proxy_core.specs.Abouts.{report_of_answer_cut_to_range, report_in_place_of_answer, report_of_stored_response_sent, report_of_answer_passed_whole, BytesShowReportedStatusAndLine, PassedAnswerShowsStatusAndCacheStatus, PurgeReplyShowsStatusAndCount, RefusalShowsStatusAndCause, StoredReplyShowsStatusAndCacheStatus}
+use Rattle.proxy_core.specs.Replies.{text_of_answer_or_its_range, client_wants_304_for_answer, content_unless_head, fields_of_answer_416, fields_of_partial_answer, stored_response_cut_to_range, is_head, length_of_passed_answer, length_unless_forbidden, line, not_modified_answer_text, not_modified_text, part_of_answer_to_send, text_of_stored_sent_as, text_in_place_of_answer, whole_answer_text, fields_without_hidden_tags}
+use Rattle.proxy_core.specs.Validating.{without_set_cookie_if}
 
 pub stored_says : StoredReplyShowsStatusAndCacheStatus
 stored_says name e now info asked = by_304 (stored_gets_304 asked e)
   where
-    by_304 : (b : Bool) → BytesShowReportedStatusAndLine name (cond b (not_modified_text name e now info asked) (text_of_stored_in_form name (stored_response_as_sent info.policy asked e) e now info asked))
-        (cond b (about_stored_response_sent 304 [] e now info) (about_stored_response_sent (stored_response_as_sent info.policy asked e).status (content_unless_head (is_head asked) (stored_response_as_sent info.policy asked e).content) e now info))
+    by_304 : (b : Bool) → BytesShowReportedStatusAndLine name (cond b (not_modified_text name e now info asked) (text_of_stored_sent_as name (stored_response_cut_to_range info.policy asked e) e now info asked))
+        (cond b (report_of_stored_response_sent 304 [] e now info) (report_of_stored_response_sent (stored_response_cut_to_range info.policy asked e).status (content_unless_head (is_head asked) (stored_response_cut_to_range info.policy asked e).content) e now info))
     by_304 true = record {
       fields = fields_of_304 e.fields ++ line (codes "Age") (decimal (age_of e.times now)) ∷ [];
       announced = None;
@@ -33,16 +33,16 @@ stored_says name e now info asked = by_304 (stored_gets_304 asked e)
       length_is = refl;
     }
     by_304 false = record {
-      fields = fields_without_hidden_tags info.policy.hides_tags (without_cookies info.policy.removes_cookies (stored_response_as_sent info.policy asked e).fields) ++ line (codes "Age") (decimal (age_of e.times now)) ∷ [];
-      announced = length_unless_forbidden (stored_response_as_sent info.policy asked e).status (Some (length (stored_response_as_sent info.policy asked e).content));
+      fields = fields_without_hidden_tags info.policy.hides_tags (without_set_cookie_if info.policy.removes_set_cookie (stored_response_cut_to_range info.policy asked e).fields) ++ line (codes "Age") (decimal (age_of e.times now)) ∷ [];
+      announced = length_unless_forbidden (stored_response_cut_to_range info.policy asked e).status (Some (length (stored_response_cut_to_range info.policy asked e).content));
       close = asked.close;
-      content = content_unless_head (is_head asked) (stored_response_as_sent info.policy asked e).content;
+      content = content_unless_head (is_head asked) (stored_response_cut_to_range info.policy asked e).content;
       bytes_are = refl;
       length_is = refl;
     }
 
 module _ (policy : Policy) (name : List ℕ) (x : Exchange) (r : Response) (now : ℕ) (stored : Bool) (rule : Option StoreRule) where
-  whole : BytesShowReportedStatusAndLine name (whole_answer_text policy name x r now stored rule) (about_answer_passed_whole policy x r now stored rule)
+  whole : BytesShowReportedStatusAndLine name (whole_answer_text policy name x r now stored rule) (report_of_answer_passed_whole policy x r now stored rule)
   whole = record {
     fields = fields_without_hidden_tags policy.hides_tags (answered_of r now).fields;
     announced = length_of_passed_answer (is_head x.asked) r;
@@ -52,13 +52,13 @@ module _ (policy : Policy) (name : List ℕ) (x : Exchange) (r : Response) (now 
     length_is = refl;
   }
 
-  by_range : (answer : RangeAnswer) → BytesShowReportedStatusAndLine name (answer_in_range_text policy name x r now stored rule answer) (about_answer_in_range policy x r now stored rule answer)
+  by_range : (answer : RangeAnswer) → BytesShowReportedStatusAndLine name (text_of_answer_or_its_range policy name x r now stored rule answer) (report_of_answer_cut_to_range policy x r now stored rule answer)
   by_range Whole = whole
   by_range (Part first last) = by_room (head_leaves_room (fields_of_partial_answer r now first last))
     where
       by_room : (b : Bool) → BytesShowReportedStatusAndLine name
           (cond b (text_in_place_of_answer policy name x r now stored rule 206 (fields_of_partial_answer r now first last) (slice_range r.content first (last + 1))) (whole_answer_text policy name x r now stored rule))
-          (cond b (about_in_place_of_answer policy x r now stored rule 206 (content_unless_head (is_head x.asked) (slice_range r.content first (last + 1)))) (about_answer_passed_whole policy x r now stored rule))
+          (cond b (report_in_place_of_answer policy x r now stored rule 206 (content_unless_head (is_head x.asked) (slice_range r.content first (last + 1)))) (report_of_answer_passed_whole policy x r now stored rule))
       by_room true = record {
         fields = fields_without_hidden_tags policy.hides_tags (fields_of_partial_answer r now first last);
         announced = Some (length (slice_range r.content first (last + 1)));
@@ -72,7 +72,7 @@ module _ (policy : Policy) (name : List ℕ) (x : Exchange) (r : Response) (now 
     where
       by_room : (b : Bool) → BytesShowReportedStatusAndLine name
           (cond b (text_in_place_of_answer policy name x r now stored rule 416 (fields_of_answer_416 r now) []) (whole_answer_text policy name x r now stored rule))
-          (cond b (about_in_place_of_answer policy x r now stored rule 416 (content_unless_head (is_head x.asked) [])) (about_answer_passed_whole policy x r now stored rule))
+          (cond b (report_in_place_of_answer policy x r now stored rule 416 (content_unless_head (is_head x.asked) [])) (report_of_answer_passed_whole policy x r now stored rule))
       by_room true = record {
         fields = fields_without_hidden_tags policy.hides_tags (fields_of_answer_416 r now);
         announced = Some 0;
@@ -83,17 +83,17 @@ module _ (policy : Policy) (name : List ℕ) (x : Exchange) (r : Response) (now 
       }
       by_room false = whole
 
-  by_304 : (b : Bool) → BytesShowReportedStatusAndLine name (cond b (not_modified_answer_text policy name x r now stored rule) (answer_in_range_text policy name x r now stored rule (range_of_answer policy x r now)))
-      (cond b (about_in_place_of_answer policy x r now stored rule 304 []) (about_answer_in_range policy x r now stored rule (range_of_answer policy x r now)))
+  by_304 : (b : Bool) → BytesShowReportedStatusAndLine name (cond b (not_modified_answer_text policy name x r now stored rule) (text_of_answer_or_its_range policy name x r now stored rule (part_of_answer_to_send policy x r now)))
+      (cond b (report_in_place_of_answer policy x r now stored rule 304 []) (report_of_answer_cut_to_range policy x r now stored rule (part_of_answer_to_send policy x r now)))
   by_304 true = record {
-    fields = fields_without_hidden_tags policy.hides_tags (fields_of_304_to_answer (answered_of r now).fields);
+    fields = fields_without_hidden_tags policy.hides_tags (fields_of_304_from_answer (answered_of r now).fields);
     announced = None;
     close = x.asked.close;
     content = [];
     bytes_are = refl;
     length_is = refl;
   }
-  by_304 false = by_range (range_of_answer policy x r now)
+  by_304 false = by_range (part_of_answer_to_send policy x r now)
 
 pub passed_says : PassedAnswerShowsStatusAndCacheStatus
 passed_says policy name x r now stored rule = by_304 policy name x r now stored rule (client_wants_304_for_answer policy x r now)

@@ -6,7 +6,7 @@ use Rattle.hx_allow.specs.TableLines.{Table}
 use Rattle.proxy_core.specs.Allowing.{verdict_of_asked, is_purge_verdict}
 use Rattle.hx_allow.specs.declared.verdicts.Verdict.{Verdict}
 use Rattle.hx_allow.specs.declared.verdicts.Verdict.TheVariants.{Allowed, DeniedBy, NoLine, Looped, Purged}
-use Rattle.hx_allow.specs.declared.verdicts.RequestRoute.{RequestRoute}
+use Rattle.hx_allow.specs.declared.verdicts.RouteOverLine.{RouteOverLine}
 use Rattle.hx_hop.specs.declared.request_view.Asked.{Asked}
 use Rattle.hx_store.specs.Stored.{Stored}
 use Rattle.proxy_core.specs.declared.outcome.Outcome.{Outcome}
@@ -17,10 +17,10 @@ use Rattle.proxy_core.specs.declared.core_fault.CoreFault.{CoreFault}
 use Rattle.proxy_core.specs.declared.core_fault.CoreFault.TheVariants.{OutOfMemory}
 use Rattle.proxy_core.specs.Outcomes.{outcome_of_arrival, step_fault}
 use Rattle.proxy_core.specs.State.{State, StepIsAccepted, StepIsRefusedWith, state_after_event}
-use Rattle.proxy_core.specs.Traces.{Item, trace_in_front_of, trace_of_events, state_after_trace, ItemIsAccepted, IsGood, RunStopsWithFault, ArrivalIsDenied, OutcomeLeavesNoTrace, DeniedRequestsLeaveNoTrace}
+use Rattle.proxy_core.specs.Traces.{Item, trace_extended_by_events, trace_of_events, state_after_trace, ItemIsAccepted, TraceIsGood, RunStopsWithFault, ArrivalIsDenied, OutcomeIsReplyWithoutStoreUse, DeniedRequestsLeaveNoTrace}
 
 pub trace_on-push : (past : List Item) (outcomes : List Outcome) (events : List Event) (e : Event) (o : Outcome) → slice_get events (length outcomes) ≡ Some e
-    → trace_in_front_of past (outcomes ++ o ∷ []) events ≡ record { event = e; outcome = o } ∷ trace_in_front_of past outcomes events
+    → trace_extended_by_events past (outcomes ++ o ∷ []) events ≡ record { event = e; outcome = o } ∷ trace_extended_by_events past outcomes events
 trace_on-push past [] [] e o h = absurd (cc)
 trace_on-push past [] (f ∷ events) e o h =
     let k : f ≡ e = same_Some f e h in
@@ -44,14 +44,14 @@ same_limit start [] = refl
 same_limit start (item ∷ past) = same_limit start past
 
 pub good-push : (start : State) (events : List Event) (outcomes : List Outcome) (e : Event) (o : Outcome) (s t : State) → slice_get events (length outcomes) ≡ Some e → s ≡ state_after_trace start (trace_of_events events outcomes) → StepIsAccepted s e o t
-    → IsGood start (trace_of_events events outcomes) → IsGood start (trace_of_events events (outcomes ++ o ∷ []))
+    → TraceIsGood start (trace_of_events events outcomes) → TraceIsGood start (trace_of_events events (outcomes ++ o ∷ []))
 good-push start events outcomes e o s t h l k g =
     let past = trace_of_events events outcomes in
     let here = subst (λ (u : State). StepIsAccepted u e o t) l k in
     let accepts : ItemIsAccepted start.table (state_after_trace start past).entries (state_after_trace start past).exchanges (state_after_trace start past).next (record { event = e; outcome = o }) =
     subst (λ (table : Table). ItemIsAccepted table (state_after_trace start past).entries (state_after_trace start past).exchanges (state_after_trace start past).next (record { event = e; outcome = o })) (same_table start past)
     record { allowed = here.allowed; outcome_is = here.outcome_is } in
-    subst (IsGood start) (sym (trace_on-push [] outcomes events e o h)) (accepts, g)
+    subst (TraceIsGood start) (sym (trace_on-push [] outcomes events e o h)) (accepts, g)
 
 pub at_index : (events : List Event) (outcomes : List Outcome) (i : ℕ) (e : Event) → length outcomes ≡ i → i < length events → e ≡ get_or events i e → slice_get events (length outcomes) ≡ Some e
 at_index events outcomes i e l h k = ap (slice_get events) l ∙ slice_get_read events (length events) i e refl h k
@@ -67,27 +67,27 @@ pub refuses_or : (s : State) (e : Event) (fault : CoreFault) (r : Option CoreFau
 refuses_or s e fault None k f = inr (sym k, f)
 refuses_or s e fault (Some w) k f = inl (sym k ∙ ap (λ (x : CoreFault). Some x) (sym f))
 
-pub same_good : (start : State) (events : List Event) (outcomes more : List Outcome) → more ≡ outcomes → IsGood start (trace_of_events events outcomes) → IsGood start (trace_of_events events more)
-same_good start events outcomes more m g = subst (λ (os : List Outcome). IsGood start (trace_of_events events os)) (sym m) g
+pub same_good : (start : State) (events : List Event) (outcomes more : List Outcome) → more ≡ outcomes → TraceIsGood start (trace_of_events events outcomes) → TraceIsGood start (trace_of_events events more)
+same_good start events outcomes more m g = subst (λ (os : List Outcome). TraceIsGood start (trace_of_events events os)) (sym m) g
 
 -- ---- a denied request leaves no trace
 
-denied_by : (table : Table) (es : List Stored) (xs : List Exchange) (now : ℕ) (asked : Asked) (v : Verdict) → ((line : RequestRoute) → v ≢ Allowed line) → is_purge_verdict v ≡ false → OutcomeLeavesNoTrace (outcome_of_arrival table es xs now asked v)
+denied_by : (table : Table) (es : List Stored) (xs : List Exchange) (now : ℕ) (asked : Asked) (v : Verdict) → ((line : RouteOverLine) → v ≢ Allowed line) → is_purge_verdict v ≡ false → OutcomeIsReplyWithoutStoreUse (outcome_of_arrival table es xs now asked v)
 denied_by table es xs now asked (Allowed line) n p = absurd (n line refl)
 denied_by table es xs now asked (DeniedBy line) n p = (refl, refl, refl, refl)
 denied_by table es xs now asked NoLine n p = (refl, refl, refl, refl)
 denied_by table es xs now asked (Looped line) n p = (refl, refl, refl, refl)
 denied_by table es xs now asked (Purged line) n p = absurd (cc)
 
-denied_item : (table : Table) (s : State) (event : Event) (outcome : Outcome) → ItemIsAccepted table s.entries s.exchanges s.next (record { event = event; outcome = outcome }) → ArrivalIsDenied table event → OutcomeLeavesNoTrace outcome
-denied_item table s (Arrive now id asked) outcome a d = subst OutcomeLeavesNoTrace (sym a.outcome_is) (denied_by table s.entries s.exchanges now asked (verdict_of_asked table asked) d.0 d.1)
+denied_item : (table : Table) (s : State) (event : Event) (outcome : Outcome) → ItemIsAccepted table s.entries s.exchanges s.next (record { event = event; outcome = outcome }) → ArrivalIsDenied table event → OutcomeIsReplyWithoutStoreUse outcome
+denied_item table s (Arrive now id asked) outcome a d = subst OutcomeIsReplyWithoutStoreUse (sym a.outcome_is) (denied_by table s.entries s.exchanges now asked (verdict_of_asked table asked) d.0 d.1)
 denied_item table s (Answer now id r) outcome a d = absurd d
 denied_item table s (Fail now id kind) outcome a d = absurd d
 denied_item table s (Wake now id) outcome a d = absurd d
 denied_item table s (Abandon id) outcome a d = absurd d
 denied_item table s (Overdue id) outcome a d = absurd d
 
-pub denied_requests_leave_no_trace : (start : State) (trace : List Item) → IsGood start trace → DeniedRequestsLeaveNoTrace start.table trace
+pub denied_requests_leave_no_trace : (start : State) (trace : List Item) → TraceIsGood start trace → DeniedRequestsLeaveNoTrace start.table trace
 denied_requests_leave_no_trace start [] g = tt
 denied_requests_leave_no_trace start (i ∷ past) g =
     (λ d. denied_item start.table (state_after_trace start past) i.event i.outcome g.0 d, denied_requests_leave_no_trace start past g.1)

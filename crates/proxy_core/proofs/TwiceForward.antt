@@ -12,16 +12,16 @@ use Rattle.proxy_core.specs.declared.open.stage.Stage.{Stage}
 use Rattle.proxy_core.specs.declared.open.stage.Stage.TheVariants.{Forwarded, Waiting, Released}
 use Rattle.proxy_core.specs.Leading.{is_forwarded, is_released, waits_for, is_waiting}
 use Rattle.proxy_core.specs.Scopes.{Scope, key_is_in_scope}
-use Rattle.proxy_core.specs.State.{State, released_exchange, overtaken_exchange, forwarded_exchange}
-use Rattle.proxy_core.specs.Traces.{Item, state_after_trace, IsGood}
-use Rattle.proxy_core.specs.Promises.{outcome_goes_forward, outcome_is_reply, is_arrival_event, count_of_outcomes, NoRequestArrives, TwiceForwardOneReply}
+use Rattle.proxy_core.specs.State.{State, exchange_released_from_leader, exchange_overtaken_if_in_scope, forwarded_exchange}
+use Rattle.proxy_core.specs.Traces.{Item, state_after_trace, TraceIsGood}
+use Rattle.proxy_core.specs.Promises.{outcome_goes_forward, outcome_is_reply, is_arrival_event, count_of_outcomes_of_id, NoRequestOfIdArrives, TwiceForwardOneReply}
 use Rattle.proxy_core.proofs.ExchangeLists.{overtaken_by, released_by}
 use Rattle.proxy_core.proofs.LedOn.{waits_waiting}
 use Rattle.proxy_core.proofs.Moves.{Move, apart, opens, queues, passes, again, wakes, closes, turns, lapses, woken_form, asked_of, ended_by, ends_back, move_of, and_none, key_taken_by_step}
 use Rattle.proxy_core.proofs.Tracing.{same_table}
 
 -- a part of a good trace
-pub part : (start : State) (later past : List Item) → IsGood start (later ++ past) → IsGood start past
+pub part : (start : State) (later past : List Item) → TraceIsGood start (later ++ past) → TraceIsGood start past
 part start [] past g = g
 part start (i ∷ later) past g = part start later past g.1
 
@@ -48,7 +48,7 @@ record Budget (id : ℕ) (event : Event) (o : Outcome) (x y : Option Exchange) :
   forwards : one (eqb (exchange_id_of_event event) id && outcome_goes_forward o) + forwards_left y ≤ forwards_left x
   replies : one (eqb (exchange_id_of_event event) id && outcome_is_reply o) + replies_left y ≤ replies_left x
 
-overtake_left : (key : Scope) (x : Exchange) → by_stage (overtaken_exchange key x).stage (cond (is_some (overtaken_exchange key x).condition) 1 0) ≡ by_stage x.stage (cond (is_some x.condition) 1 0)
+overtake_left : (key : Scope) (x : Exchange) → by_stage (exchange_overtaken_if_in_scope key x).stage (cond (is_some (exchange_overtaken_if_in_scope key x).condition) 1 0) ≡ by_stage x.stage (cond (is_some x.condition) 1 0)
 overtake_left key x = elim (key_is_in_scope key x.asked.target.key) as (λ b. by_stage (cond b (record x { overtaken = true }) x).stage (cond (is_some (cond b (record x { overtaken = true }) x).condition) 1 0) ≡ by_stage x.stage (cond (is_some x.condition) 1 0)) [
   | true ↦ refl
   | false ↦ refl
@@ -66,7 +66,7 @@ unfolding by_stage
 left_when_released i x true h = left_of_a_waiter i x.stage (cond (is_some x.condition) 1 0) h
 left_when_released i x false h = refl
 
-release_left : (i : ℕ) (x : Exchange) → by_stage (released_exchange i x).stage (cond (is_some (released_exchange i x).condition) 1 0) ≡ by_stage x.stage (cond (is_some x.condition) 1 0)
+release_left : (i : ℕ) (x : Exchange) → by_stage (exchange_released_from_leader i x).stage (cond (is_some (exchange_released_from_leader i x).condition) 1 0) ≡ by_stage x.stage (cond (is_some x.condition) 1 0)
 release_left i x = left_when_released i x (waits_for i x.stage) refl
 
 budget_released : (gone : Option ℕ) (x : Option Exchange) →
@@ -223,9 +223,9 @@ module _ (start : State) (arrival : Item) (before : List Item) where
   exchange items = find_exchange id (state_after_trace start (items ++ arrival ∷ before)).exchanges
 
   abbrev so_far : (Outcome → Bool) → List Item → ℕ
-  so_far p items = count_of_outcomes p id (items ++ arrival ∷ [])
+  so_far p items = count_of_outcomes_of_id p id (items ++ arrival ∷ [])
 
-  counted : (items : List Item) → IsGood start (items ++ arrival ∷ before) → is_arrival_event arrival.event ≡ true → NoRequestArrives id items →
+  counted : (items : List Item) → TraceIsGood start (items ++ arrival ∷ before) → is_arrival_event arrival.event ≡ true → NoRequestOfIdArrives id items →
       (so_far outcome_goes_forward items + forwards_left (exchange items) ≤ 2) × (so_far outcome_is_reply items + replies_left (exchange items) ≤ 1)
   counted [] g a n =
       let s = state_after_trace start before in
@@ -248,9 +248,9 @@ module _ (start : State) (arrival : Item) (before : List Item) where
       let i1 = i.1 in
       (omega arith, omega arith)
 
-pub twice_forward_one_reply : (start : State) (trace : List Item) → IsGood start trace → TwiceForwardOneReply trace
+pub twice_forward_one_reply : (start : State) (trace : List Item) → TraceIsGood start trace → TwiceForwardOneReply trace
 twice_forward_one_reply start trace g later items before arrival e a n =
-    let p : IsGood start (items ++ arrival ∷ before) = part start later (items ++ arrival ∷ before) (subst (IsGood start) (sym e) g) in
+    let p : TraceIsGood start (items ++ arrival ∷ before) = part start later (items ++ arrival ∷ before) (subst (TraceIsGood start) (sym e) g) in
     let k = counted start arrival before items p a n in
     let k0 = k.0 in
     let k1 = k.1 in

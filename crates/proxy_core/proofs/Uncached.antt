@@ -8,7 +8,7 @@ use Rattle.hx_allow.specs.TableLines.{Table}
 use Rattle.hx_allow.specs.Matching.{policy_of}
 use Rattle.hx_allow.specs.declared.verdicts.Verdict.{Verdict}
 use Rattle.hx_allow.specs.declared.verdicts.Verdict.TheVariants as verdict
-use Rattle.hx_allow.specs.declared.verdicts.RequestRoute.{RequestRoute}
+use Rattle.hx_allow.specs.declared.verdicts.RouteOverLine.{RouteOverLine}
 use Rattle.hx_store.specs.Stored.{Stored}
 use Rattle.hx_reuse.specs.Rules.{decision_of, is_rule_on_chosen}
 use Rattle.hx_reuse.specs.ChosenAndNamed.{RuleOnChosenNamesItsSerial}
@@ -21,25 +21,25 @@ use Rattle.proxy_core.specs.declared.steps.condition.Condition.{Condition}
 use Rattle.proxy_core.specs.declared.open.exchange.Exchange.{Exchange}
 use Rattle.proxy_core.specs.declared.event.Event.{Event}
 use Rattle.proxy_core.specs.declared.event.Event.TheVariants.{Arrive, Answer, Fail, Wake, Abandon, Overdue}
-use Rattle.proxy_core.specs.Validating.{condition_about_serial, is_304_to_own_conditions}
+use Rattle.proxy_core.specs.Validating.{condition_to_revalidate_serial, is_304_to_own_conditions}
 use Rattle.proxy_core.specs.declared.open.awaited.Awaited.{Awaited}
 use Rattle.proxy_core.specs.Leading.{leader_id_if_awaited}
 use Rattle.proxy_core.proofs.Awaits.{operator_awaits_nothing}
-use Rattle.proxy_core.specs.Outcomes.{find_exchange, exchange_id_of_event, outcome_of_arrival, outcome_of_allowed_request, outcome_of_waiting_or_forwarding, outcome_unless_stale_is_sent, outcome_without_stored_response, is_only_if_cached}
+use Rattle.proxy_core.specs.Outcomes.{find_exchange, exchange_id_of_event, outcome_of_arrival, outcome_of_allowed_request, outcome_of_waiting_or_forwarding, outcome_unless_stale_is_sent, outcome_where_reuse_rule_applies, is_only_if_cached}
 use Rattle.proxy_core.specs.State.{serial_stored_by_outcome, serial_used_by_outcome}
 use Rattle.proxy_core.specs.Starts.{StoreAtStart}
 use Rattle.proxy_core.specs.Traces.{Item}
 use Rattle.proxy_core.specs.Histories.{held_entries, open_exchanges, next_serial}
 use Rattle.proxy_core.specs.Carrying.{ExchangeWentForwardOnce, ExchangeWentForwardASecondTime, HasWaitedSinceItsArrival, ExchangeWasJudged}
-use Rattle.proxy_core.specs.Sending.{StoredResponseIsReusable, MayBeSentAsFallback, StoredResponseMayBeSentAt, StoredMayBeSentWhileRevalidating}
-use Rattle.proxy_core.specs.Revalidating.{sent_while_revalidating}
-use Rattle.proxy_core.specs.Uncached.{EventGoesOverLine, RequestIsAnsweredByTheOperator, NothingIsStoredOverUncachedLine, NothingStoredIsSentOverUncachedLine, RequestGoesForwardOverUncachedLine}
+use Rattle.proxy_core.specs.Sending.{StoredResponseIsReusable, MayBeSentAsFallback, StoredResponseMayBeSentAtEvent, StoredMayBeSentWhileRevalidating}
+use Rattle.proxy_core.specs.Revalidating.{serial_sent_while_revalidating}
+use Rattle.proxy_core.specs.Uncached.{EventGoesOverLine, RequestIsForwardedUnlessOnlyIfCached, NothingIsStoredOverUncachedLine, NothingStoredIsSentOverUncachedLine, RequestGoesForwardOverUncachedLine}
 use Rattle.proxy_core.proofs.Carries.{carries_its_arrival}
 use Rattle.proxy_core.proofs.SendLaws.{sends_nothing_else, arrival_is, allowed_by}
 use Rattle.proxy_core.proofs.Moves.{and_none}
 use Rattle.proxy_core.proofs.Unsent.{storing_of}
 
-same_line : (m n : RequestRoute) → verdict.Allowed m ≡ verdict.Allowed n → m ≡ n
+same_line : (m n : RouteOverLine) → verdict.Allowed m ≡ verdict.Allowed n → m ≡ n
 same_line m n h = cc
 
 -- where nothing is there it is none
@@ -47,14 +47,14 @@ none_there : (o : Option ℕ) → ((s : ℕ) → o ≡ Some s → ⊥) → o ≡
 none_there None h = refl
 none_there (Some s) h = absurd (h s refl)
 
-module _ (table : Table) (line : RequestRoute) (off : (policy_of table.lines line).caches ≡ false) where
-  no_word : (n : RequestRoute) → n ≡ line → (policy_of table.lines n).caches ≡ true → ⊥
+module _ (table : Table) (line : RouteOverLine) (off : (policy_of table.lines line).caches ≡ false) where
+  no_word : (n : RouteOverLine) → n ≡ line → (policy_of table.lines n).caches ≡ true → ⊥
   no_word n same h = false≢true (sym off ∙ ap (λ m. (policy_of table.lines m).caches) (sym same) ∙ h)
 
-  not_reusable : (held : List Stored) (asked : Asked) (now s : ℕ) (n : RequestRoute) → n ≡ line → StoredResponseIsReusable (policy_of table.lines n) held asked now s → ⊥
+  not_reusable : (held : List Stored) (asked : Asked) (now s : ℕ) (n : RouteOverLine) → n ≡ line → StoredResponseIsReusable (policy_of table.lines n) held asked now s → ⊥
   not_reusable held asked now s n same r = no_word n same r.1.operator_allows
 
-  no_fallback : (held : List Stored) (asked : Asked) (now s : ℕ) (n : RequestRoute) → n ≡ line → MayBeSentAsFallback (policy_of table.lines n) held asked now s → ⊥
+  no_fallback : (held : List Stored) (asked : Asked) (now s : ℕ) (n : RouteOverLine) → n ≡ line → MayBeSentAsFallback (policy_of table.lines n) held asked now s → ⊥
   no_fallback held asked now s n same (inl r) = not_reusable held asked now s n same r
   no_fallback held asked now s n same (inr may) = no_word n same may.1.operator_allows
 
@@ -70,15 +70,15 @@ module _ (table : Table) (line : RequestRoute) (off : (policy_of table.lines lin
       by_name against (inr high) = absurd (late high.0)
 
       by_going : ExchangeWentForwardOnce table start x a.since a.before a.now a.item.outcome ⊎ (ExchangeWentForwardASecondTime table x a.since ⊎ HasWaitedSinceItsArrival table start x a.since a.before a.item.outcome) → x.condition ≡ None
-      by_going (inl once) = once.condition ∙ ap (condition_about_serial (held_entries table start a.before)) (by_name once.against once.names)
+      by_going (inl once) = once.condition ∙ ap (condition_to_revalidate_serial (held_entries table start a.before)) (by_name once.against once.names)
       by_going (inr (inl more)) = more.condition
-      by_going (inr (inr waits)) = waits.condition ∙ ap (condition_about_serial (held_entries table start a.before)) (by_name waits.against waits.names)
+      by_going (inr (inr waits)) = waits.condition ∙ ap (condition_to_revalidate_serial (held_entries table start a.before)) (by_name waits.against waits.names)
 
   no_validation : (x : Exchange) (r : Response) → x.condition ≡ None → is_304_to_own_conditions x r ≡ true → ⊥
   no_validation x r none h = false≢true (sym (and_none (r.status == 304)) ∙ ap (λ (c : Option Condition). (r.status == 304) && is_some c) (sym none) ∙ h)
 
   nothing_sent : (start : StoreAtStart) (s : ℕ) (past : List Item) (x : Option Exchange) (event : Event) → ((z : Exchange) → x ≡ Some z → ExchangeWasJudged table start z past) →
-      EventGoesOverLine table x event line → StoredResponseMayBeSentAt table (held_entries table start past) x event s → ⊥
+      EventGoesOverLine table x event line → StoredResponseMayBeSentAtEvent table (held_entries table start past) x event s → ⊥
   nothing_sent start s past x (Arrive now id asked) carries over may =
       not_reusable (held_entries table start past) asked now s may.0 (same_line may.0 line (sym may.1 ∙ over)) may.2
   nothing_sent start s past (Some x) (Answer now id r) carries over (inl may) = no_validation x r (no_condition start x past over (carries x refl)) may.0
@@ -128,20 +128,20 @@ goes_forward_over_it table start first now id line asked item past g e v off =
     let es = held_entries table start past in
     let xs = open_exchanges table start past in
     let d : decision_of (policy_of table.lines line) es asked now ≡ decision.Forward Operator None = sym (by_operator (policy_of table.lines line) es asked now off) in
-    let is : item.outcome ≡ outcome_without_stored_response table es xs line now asked Operator None (is_only_if_cached asked) =
+    let is : item.outcome ≡ outcome_where_reuse_rule_applies table es xs line now asked Operator None (is_only_if_cached asked) =
     arrival_is table start first now id asked item past g e
     ∙ ap (λ (w : Verdict). outcome_of_arrival table es xs now asked w) v
     ∙ ap (λ (k : Decision). outcome_of_allowed_request table es xs line now asked k) d
     in
     by_word (is_only_if_cached asked) refl is
   where
-    by_word : (b : Bool) → is_only_if_cached asked ≡ b → item.outcome ≡ outcome_without_stored_response table (held_entries table start past) (open_exchanges table start past) line now asked Operator None b → RequestIsAnsweredByTheOperator table now asked line item.outcome
+    by_word : (b : Bool) → is_only_if_cached asked ≡ b → item.outcome ≡ outcome_where_reuse_rule_applies table (held_entries table start past) (open_exchanges table start past) line now asked Operator None b → RequestIsForwardedUnlessOnlyIfCached table now asked line item.outcome
     by_word true k is = inr (k, is)
     by_word false k is = inl (
       k,
       is
           ∙ ap (λ (o : Option Awaited). outcome_unless_stale_is_sent table (held_entries table start past) line now asked
-          (sent_while_revalidating (policy_of table.lines line) (held_entries table start past) asked now o (leader_id_if_awaited (policy_of table.lines line) asked (exchanges_to_wait_for table line asked (open_exchanges table start past)) o))
+          (serial_sent_while_revalidating (policy_of table.lines line) (held_entries table start past) asked now o (leader_id_if_awaited (policy_of table.lines line) asked (exchanges_to_wait_for table line asked (open_exchanges table start past)) o))
           (outcome_of_waiting_or_forwarding table line asked None (leader_id_if_awaited (policy_of table.lines line) asked (exchanges_to_wait_for table line asked (open_exchanges table start past)) o)))
           (operator_awaits_nothing (policy_of table.lines line) (held_entries table start past) asked),
     )

@@ -19,7 +19,7 @@ use Rattle.proxy_core.specs.Histories.{held_entries}
 use Rattle.proxy_core.specs.Traces.{Item}
 use Rattle.proxy_core.specs.Outcomes.{outcome_of_answer}
 use Rattle.proxy_core.specs.Storing.{status_invalidates, key_invalidated}
-use Rattle.proxy_core.specs.Validating.{condition_about_serial, is_304_to_own_conditions}
+use Rattle.proxy_core.specs.Validating.{condition_to_revalidate_serial, is_304_to_own_conditions}
 use Rattle.proxy_core.specs.Promises.{key_invalidated_by_answer}
 use Rattle.proxy_core.specs.Carrying.{ExchangeWasJudged, ExchangeWentForwardOnce, ExchangeWentForwardASecondTime, HasWaitedSinceItsArrival}
 use Rattle.proxy_core.proofs.Moves.{and_none, key_taken_by_answer, same_key_invalidated}
@@ -60,9 +60,9 @@ module _ (table : Table) (start : StoreAtStart) (x : Exchange) (past : List Item
       by_name against (inr high) = absurd (late high.0)
 
       by_going : ExchangeWentForwardOnce table start x a.since a.before a.now a.item.outcome ⊎ (ExchangeWentForwardASecondTime table x a.since ⊎ HasWaitedSinceItsArrival table start x a.since a.before a.item.outcome) → x.condition ≡ None
-      by_going (inl once) = once.condition ∙ ap (condition_about_serial (held_entries table start a.before)) (by_name once.against once.names)
+      by_going (inl once) = once.condition ∙ ap (condition_to_revalidate_serial (held_entries table start a.before)) (by_name once.against once.names)
       by_going (inr (inl more)) = more.condition
-      by_going (inr (inr waits)) = waits.condition ∙ ap (condition_about_serial (held_entries table start a.before)) (by_name waits.against waits.names)
+      by_going (inr (inr waits)) = waits.condition ∙ ap (condition_to_revalidate_serial (held_entries table start a.before)) (by_name waits.against waits.names)
 
   validates_nothing : (r : Response) → is_among safe_methods x.asked.method ≡ false → is_304_to_own_conditions x r ≡ false
   validates_nothing r u = ap (λ (c : Option Condition). (r.status == 304) && is_some c) (no_condition u) ∙ and_none (r.status == 304)

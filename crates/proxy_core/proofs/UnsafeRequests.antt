@@ -12,7 +12,7 @@ use Rattle.hx_reuse.specs.declared.rule.ReuseRule.{ReuseRule}
 use Rattle.hx_reuse.specs.declared.rule.ReuseRule.TheVariants as rules
 use Rattle.hx_reuse.specs.declared.decision.Decision.TheVariants as decision
 use Rattle.hx_reuse.proofs.RuleLemmas.{by_operator, by_request}
-use Rattle.proxy_core.specs.declared.steps.fallback.Fallback.TheVariants.{Refuses}
+use Rattle.proxy_core.specs.declared.steps.fallback.FallbackDecision.TheVariants.{Refuses}
 use Rattle.proxy_core.specs.Outcomes.{fallback_for_failed_answer}
 
 pub by_no_method : (m : List ℕ) → is_among safe_methods m ≡ false → not (bytes_eq m (codes "GET") || bytes_eq m (codes "HEAD")) ≡ true

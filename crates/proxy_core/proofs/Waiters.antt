@@ -21,9 +21,9 @@ use Rattle.proxy_core.specs.declared.open.stage.Stage.TheVariants.{Forwarded, Wa
 use Rattle.proxy_core.specs.declared.open.wait_index.WaitIndex.{WaitIndex}
 use Rattle.proxy_core.specs.Leading.{is_forwarded, waits_for}
 use Rattle.proxy_core.specs.Scopes.{Scope, key_is_in_scope}
-use Rattle.proxy_core.specs.State.{released_exchange, overtaken_exchange}
-use Rattle.proxy_core.specs.Waiters.{is_in_wait_index, WaiterIsEntered, WaiterIsRemoved, WaitersAreRemoved, WaitIndexesHaveSameMembers, ArrivalIsNotInWaitIndex, SetIsNotEmpty, WaitIndexHasNoEmptySet, OtherIdsHaveNoEmptyWaiterSet}
-use Rattle.proxy_core.specs.Arrivals.{map_exchanges, HaveDistinctArrivalsAndIds, SelectedArrivalsPassTest, IsExactIndexOfSelected, WaitingArrivalsPassTest}
+use Rattle.proxy_core.specs.State.{exchange_released_from_leader, exchange_overtaken_if_in_scope}
+use Rattle.proxy_core.specs.Waiters.{arrival_is_in_wait_index, ArrivalIsAddedIfWaiting, ArrivalIsRemovedIfWaiting, WaitersAreRemoved, WaitIndexesHaveSameMembers, ArrivalIsNotInWaitIndex, SetIsNotEmpty, WaitIndexHasNoEmptySet, OtherIdsHaveNoEmptyWaiterSet}
+use Rattle.proxy_core.specs.Arrivals.{exchanges_each_changed, HaveDistinctArrivalsAndIds, SelectedArrivalsPassTest, IsExactIndexOfSelected, WaitingArrivalsPassTest}
 use Rattle.proxy_core.proofs.ExchangeLists.{cond_none}
 use Rattle.proxy_core.proofs.Indexed.{lookup-removed, lookup-set, not_indexed, indexes-entered, indexes-left, indexes-on_all}
 
@@ -75,7 +75,7 @@ pass-removed which n p q (e ∷ es) a k h = elim (cases_Bool (at n e.0)) [
 -- ---- changing
 
 pub pass-on_all : (which : Exchange → Bool) (p : ℕ → Bool) (f : Exchange → Exchange) → ((x : Exchange) → which (f x) ≡ true → which x ≡ true) →
-    (es : Numbered) → SelectedArrivalsPassTest which p es → SelectedArrivalsPassTest which p (map_exchanges f es)
+    (es : Numbered) → SelectedArrivalsPassTest which p es → SelectedArrivalsPassTest which p (exchanges_each_changed f es)
 pass-on_all which p f k [] h = tt
 pass-on_all which p f k (e ∷ es) h = (λ w. h.0 (k e.1 w), pass-on_all which p f k es h.1)
 
@@ -87,7 +87,7 @@ still id q (Waiting leader) h k = eq-eqb q id (sym (eqb-true leader q h) ∙ eqb
 still id q Released h k = absurd (false≢true h)
 
 -- who still waits waits for another
-pub waits_on : (q id : ℕ) (x : Exchange) → waits_for id (released_exchange q x).stage ≡ true → (waits_for id x.stage ≡ true) × (eqb q id ≡ false)
+pub waits_on : (q id : ℕ) (x : Exchange) → waits_for id (exchange_released_from_leader q x).stage ≡ true → (waits_for id x.stage ≡ true) × (eqb q id ≡ false)
 waits_on q id x h = elim (cases_Bool (waits_for q x.stage)) [
   | inl t ↦ absurd (false≢true (sym (ap (λ b. waits_for id (cond b (record x { stage = Released }) x).stage) t) ∙ h))
   | inr f ↦ (
@@ -105,50 +105,50 @@ pub record TurnsAway (q : ℕ) (f : Exchange → Exchange) : Type 0 where
   pub others : (x : Exchange) → waits_for q x.stage ≡ false → f x ≡ x
   pub no_more : (x : Exchange) → waits_for q (f x).stage ≡ false
 
-pub released_away : (q : ℕ) → TurnsAway q (released_exchange q)
+pub released_away : (q : ℕ) → TurnsAway q (exchange_released_from_leader q)
 released_away q = record {
   others = λ x f. ap (λ b. cond b (record x { stage = Released }) x) f;
-  no_more = λ x. elim (cases_Bool (waits_for q (released_exchange q x).stage)) [
+  no_more = λ x. elim (cases_Bool (waits_for q (exchange_released_from_leader q x).stage)) [
     | inl t ↦ absurd (false≢true (sym (waits_on q q x t).1 ∙ eq-eqb q q refl))
     | inr f ↦ f
   ];
 }
 
 -- where none waits it changes nothing
-pub none_turned : (q : ℕ) (f : Exchange → Exchange) → TurnsAway q f → (es : Numbered) → WaitingArrivalsPassTest q (λ n. false) es → map_exchanges f es ≡ es
+pub none_turned : (q : ℕ) (f : Exchange → Exchange) → TurnsAway q f → (es : Numbered) → WaitingArrivalsPassTest q (λ n. false) es → exchanges_each_changed f es ≡ es
 none_turned q f k [] h = refl
 none_turned q f k (e ∷ es) h = elim (cases_Bool (waits_for q e.1.stage)) [
   | inl t ↦ absurd (false≢true (h.0 t))
   | inr o ↦ (
-      ap (λ (x : Exchange). (e.0, x) ∷ map_exchanges f es) (k.others e.1 o)
+      ap (λ (x : Exchange). (e.0, x) ∷ exchanges_each_changed f es) (k.others e.1 o)
       ∙ ap (λ (zs : Numbered). e ∷ zs) (none_turned q f k es h.1)
       )
 ]
 
-pub none_released : (q : ℕ) (es : Numbered) → WaitingArrivalsPassTest q (λ n. false) es → map_exchanges (released_exchange q) es ≡ es
-none_released q es h = none_turned q (released_exchange q) (released_away q) es h
+pub none_released : (q : ℕ) (es : Numbered) → WaitingArrivalsPassTest q (λ n. false) es → exchanges_each_changed (exchange_released_from_leader q) es ≡ es
+none_released q es h = none_turned q (exchange_released_from_leader q) (released_away q) es h
 
 -- those whose numbers are still to come
 abbrev pub TheRest : ℕ → List ℕ → Numbered → Type 0
 TheRest q ns es = WaitingArrivalsPassTest q (λ k. list_any (λ n. at k n) ns) es
 
 -- one was turned away at its number
-pub turned_at : (q : ℕ) (f : Exchange → Exchange) → TurnsAway q f → (n : ℕ) (x : Exchange) (es : Numbered) → lookup (at n) es ≡ Some x → map_exchanges f (set_value (at n) es (f x)) ≡ map_exchanges f es
+pub turned_at : (q : ℕ) (f : Exchange → Exchange) → TurnsAway q f → (n : ℕ) (x : Exchange) (es : Numbered) → lookup (at n) es ≡ Some x → exchanges_each_changed f (set_value (at n) es (f x)) ≡ exchanges_each_changed f es
 turned_at q f k n x [] h = absurd (cc)
 turned_at q f k n x (e ∷ es) h = elim (cases_Bool (at n e.0)) [
   | inl t ↦ (
       let is : e.1 ≡ x = same_Some e.1 x (sym (ap (λ b. cond b (Some e.1) (lookup (at n) es)) t) ∙ h) in
-      ap (λ b. map_exchanges f (cond b ((e.0, f x) ∷ es) (e ∷ set_value (at n) es (f x)))) t
-      ∙ ap (λ (y : Exchange). (e.0, y) ∷ map_exchanges f es) (k.others (f x) (k.no_more x) ∙ ap f (sym is))
+      ap (λ b. exchanges_each_changed f (cond b ((e.0, f x) ∷ es) (e ∷ set_value (at n) es (f x)))) t
+      ∙ ap (λ (y : Exchange). (e.0, y) ∷ exchanges_each_changed f es) (k.others (f x) (k.no_more x) ∙ ap f (sym is))
       )
   | inr o ↦ (
-      ap (λ b. map_exchanges f (cond b ((e.0, f x) ∷ es) (e ∷ set_value (at n) es (f x)))) o
+      ap (λ b. exchanges_each_changed f (cond b ((e.0, f x) ∷ es) (e ∷ set_value (at n) es (f x)))) o
       ∙ ap (λ (zs : Numbered). (e.0, f e.1) ∷ zs) (turned_at q f k n x es (sym (ap (λ b. cond b (Some e.1) (lookup (at n) es)) o) ∙ h))
       )
 ]
 
-pub released_at : (q n : ℕ) (x : Exchange) (es : Numbered) → lookup (at n) es ≡ Some x → map_exchanges (released_exchange q) (set_value (at n) es (released_exchange q x)) ≡ map_exchanges (released_exchange q) es
-released_at q n x es h = turned_at q (released_exchange q) (released_away q) n x es h
+pub released_at : (q n : ℕ) (x : Exchange) (es : Numbered) → lookup (at n) es ≡ Some x → exchanges_each_changed (exchange_released_from_leader q) (set_value (at n) es (exchange_released_from_leader q x)) ≡ exchanges_each_changed (exchange_released_from_leader q) es
+released_at q n x es h = turned_at q (exchange_released_from_leader q) (released_away q) n x es h
 
 pub not_at : (n m : ℕ) → eqb n m ≡ false → at m n ≡ false
 not_at n m o = grind (arith, nat_tests, o)
@@ -188,34 +188,34 @@ rest-turned q f k n x ns (e ∷ es) s there h = elim (cases_Bool (at n e.0)) [
 ]
 
 pub rest-released : (q n : ℕ) (x : Exchange) (ns : List ℕ) (es : Numbered) → IsStrictlySortedBy nat_cmp (keys_of es) → lookup (at n) es ≡ Some x →
-    TheRest q (n ∷ ns) es → TheRest q ns (set_value (at n) es (released_exchange q x))
-rest-released q n x ns es s there h = rest-turned q (released_exchange q) (released_away q) n x ns es s there h
+    TheRest q (n ∷ ns) es → TheRest q ns (set_value (at n) es (exchange_released_from_leader q x))
+rest-released q n x ns es s there h = rest-turned q (exchange_released_from_leader q) (released_away q) n x ns es s there h
 
 -- ---- the index
 
 abbrev pub AllIndexed : WaitIndex → Numbered → Type 0
-AllIndexed index es = (id : ℕ) → IsExactIndexOfSelected (λ x. waits_for id x.stage) (is_in_wait_index index id) es
+AllIndexed index es = (id : ℕ) → IsExactIndexOfSelected (λ x. waits_for id x.stage) (arrival_is_in_wait_index index id) es
 
 pub waiters-not : (n : ℕ) (es : Numbered) (index : WaitIndex) → All (λ k. k < n) (keys_of es) → AllIndexed index es → ArrivalIsNotInWaitIndex n index
-waiters-not n es index l h id = not_indexed (λ x. waits_for id x.stage) (is_in_wait_index index id) n es (none_has n es l) (h id)
+waiters-not n es index l h id = not_indexed (λ x. waits_for id x.stage) (arrival_is_in_wait_index index id) n es (none_has n es l) (h id)
 
-pub waiters-entered : (n : ℕ) (x : Exchange) (es : Numbered) (old new : WaitIndex) → All (λ k. k < n) (keys_of es) → WaiterIsEntered x.stage n old new →
+pub waiters-entered : (n : ℕ) (x : Exchange) (es : Numbered) (old new : WaitIndex) → All (λ k. k < n) (keys_of es) → ArrivalIsAddedIfWaiting x.stage n old new →
     AllIndexed old es → AllIndexed new (es ++ (n, x) ∷ [])
-waiters-entered n x es old new l k h id = indexes-entered (λ y. waits_for id y.stage) n x (is_in_wait_index old id) (is_in_wait_index new id) es (none_has n es l) (k id) (h id)
+waiters-entered n x es old new l k h id = indexes-entered (λ y. waits_for id y.stage) n x (arrival_is_in_wait_index old id) (arrival_is_in_wait_index new id) es (none_has n es l) (k id) (h id)
 
 pub waiters-again : (es : Numbered) (old new : WaitIndex) → WaitIndexesHaveSameMembers old new → AllIndexed old es → AllIndexed new es
 waiters-again es old new k h id m = k id m ∙ h id m
 
-pub waiters-closed : (n : ℕ) (x : Exchange) (es : Numbered) (old new : WaitIndex) → HaveDistinctArrivalsAndIds es → lookup (at n) es ≡ Some x → WaiterIsRemoved x.stage n old new →
+pub waiters-closed : (n : ℕ) (x : Exchange) (es : Numbered) (old new : WaitIndex) → HaveDistinctArrivalsAndIds es → lookup (at n) es ≡ Some x → ArrivalIsRemovedIfWaiting x.stage n old new →
     AllIndexed old es → AllIndexed new (remove_entry (at n) es)
 waiters-closed n x es old new a there k h id =
-    indexes-left (λ y. waits_for id y.stage) n x None (is_in_wait_index old id) (is_in_wait_index new id) es (remove_entry (at n) es) there refl (λ m. lookup-removed m n es a) (k id) (h id)
+    indexes-left (λ y. waits_for id y.stage) n x None (arrival_is_in_wait_index old id) (arrival_is_in_wait_index new id) es (remove_entry (at n) es) there refl (λ m. lookup-removed m n es a) (k id) (h id)
 
 -- one that waits for none any more was written at its number
-pub waiters-written : (n : ℕ) (x y : Exchange) (es : Numbered) (old new : WaitIndex) → lookup (at n) es ≡ Some x → is_forwarded y.stage ≡ true → WaiterIsRemoved x.stage n old new →
+pub waiters-written : (n : ℕ) (x y : Exchange) (es : Numbered) (old new : WaitIndex) → lookup (at n) es ≡ Some x → is_forwarded y.stage ≡ true → ArrivalIsRemovedIfWaiting x.stage n old new →
     AllIndexed old es → AllIndexed new (set_value (at n) es y)
 waiters-written n x y es old new there out k h id =
-    indexes-left (λ z. waits_for id z.stage) n x (Some y) (is_in_wait_index old id) (is_in_wait_index new id) es (set_value (at n) es y) there (at_the_origin y.stage out) (λ m. lookup-set m n x y es there) (k id) (h id)
+    indexes-left (λ z. waits_for id z.stage) n x (Some y) (arrival_is_in_wait_index old id) (arrival_is_in_wait_index new id) es (set_value (at n) es y) there (at_the_origin y.stage out) (λ m. lookup-set m n x y es there) (k id) (h id)
   where
     at_the_origin : (s : Stage) → is_forwarded s ≡ true → waits_for id s ≡ false
     at_the_origin Forwarded h = refl
@@ -223,13 +223,13 @@ waiters-written n x y es old new there out k h id =
     at_the_origin Released h = absurd (false≢true h)
 
 -- a change that leaves each where it stands
-pub waiters-on_all : (f : Exchange → Exchange) → ((x : Exchange) → (f x).stage ≡ x.stage) → (es : Numbered) (index : WaitIndex) → AllIndexed index es → AllIndexed index (map_exchanges f es)
+pub waiters-on_all : (f : Exchange → Exchange) → ((x : Exchange) → (f x).stage ≡ x.stage) → (es : Numbered) (index : WaitIndex) → AllIndexed index es → AllIndexed index (exchanges_each_changed f es)
 waiters-on_all f k es index h id =
-    indexes-on_all (λ x. waits_for id x.stage) f (λ b. b) (is_in_wait_index index id) (is_in_wait_index index id) es refl (λ x. ap (waits_for id) (k x)) (λ m. refl) (h id)
+    indexes-on_all (λ x. waits_for id x.stage) f (λ b. b) (arrival_is_in_wait_index index id) (arrival_is_in_wait_index index id) es refl (λ x. ap (waits_for id) (k x)) (λ m. refl) (h id)
 
-pub waiters-released : (q : ℕ) (es : Numbered) (old new : WaitIndex) → WaitersAreRemoved q old new → AllIndexed old es → AllIndexed new (map_exchanges (released_exchange q) es)
+pub waiters-released : (q : ℕ) (es : Numbered) (old new : WaitIndex) → WaitersAreRemoved q old new → AllIndexed old es → AllIndexed new (exchanges_each_changed (exchange_released_from_leader q) es)
 waiters-released q es old new k h id =
-    indexes-on_all (λ x. waits_for id x.stage) (released_exchange q) (λ b. not (eqb q id) && b) (is_in_wait_index old id) (is_in_wait_index new id) es (none (eqb q id)) (λ x. still_waits x) (k id) (h id)
+    indexes-on_all (λ x. waits_for id x.stage) (exchange_released_from_leader q) (λ b. not (eqb q id) && b) (arrival_is_in_wait_index old id) (arrival_is_in_wait_index new id) es (none (eqb q id)) (λ x. still_waits x) (k id) (h id)
   where
     none : (b : Bool) → (not b && false) ≡ false
     none true = refl
@@ -243,13 +243,13 @@ waiters-released q es old new k h id =
     as_before s f true e = sym (ap (λ i. waits_for i s) (eqb-true q id e)) ∙ f
     as_before s f false e = refl
 
-    still_waits : (x : Exchange) → waits_for id (released_exchange q x).stage ≡ (not (eqb q id) && waits_for id x.stage)
+    still_waits : (x : Exchange) → waits_for id (exchange_released_from_leader q x).stage ≡ (not (eqb q id) && waits_for id x.stage)
     still_waits x = elim (cases_Bool (waits_for q x.stage)) [
       | inl t ↦ ap (λ b. waits_for id (cond b (record x { stage = Released }) x).stage) t ∙ no_more x.stage t (eqb q id) refl
       | inr f ↦ ap (λ b. waits_for id (cond b (record x { stage = Released }) x).stage) f ∙ as_before x.stage f (eqb q id) refl
     ]
 
-pub overtake-stage : (key : Scope) (x : Exchange) → (overtaken_exchange key x).stage ≡ x.stage
+pub overtake-stage : (key : Scope) (x : Exchange) → (exchange_overtaken_if_in_scope key x).stage ≡ x.stage
 overtake-stage key x = elim (key_is_in_scope key x.asked.target.key) as (λ b. (cond b (record x { overtaken = true }) x).stage ≡ x.stage) [ true ↦ refl | false ↦ refl ]
 
 -- ---- no id stands there for nothing

@@ -12,7 +12,7 @@ use Rattle.hx_allow.specs.Matching.{policy_of}
 use Rattle.proxy_core.specs.Allowing.{verdict_of_asked, exchanges_to_wait_for}
 use Rattle.hx_allow.specs.declared.verdicts.Verdict.{Verdict}
 use Rattle.hx_allow.specs.declared.verdicts.Verdict.TheVariants as verdict
-use Rattle.hx_allow.specs.declared.verdicts.RequestRoute.{RequestRoute}
+use Rattle.hx_allow.specs.declared.verdicts.RouteOverLine.{RouteOverLine}
 use Rattle.hx_store.specs.Stored.{Stored}
 use Rattle.hx_store.specs.Serials.{SerialsAreDistinct}
 use Rattle.hx_store.specs.Shelf.{serials}
@@ -34,29 +34,29 @@ use Rattle.hx_reuse.proofs.ReusableLemmas.{reused_is_allowed}
 use Rattle.proxy_core.specs.declared.open.stage.Stage.{Stage}
 use Rattle.proxy_core.specs.declared.open.stage.Stage.TheVariants.{Forwarded, Waiting, Released}
 use Rattle.proxy_core.specs.declared.open.exchange.Exchange.{Exchange}
-use Rattle.proxy_core.specs.declared.steps.fallback.Fallback.{Fallback}
-use Rattle.proxy_core.specs.declared.steps.fallback.Fallback.TheVariants.{Sends, Refuses}
+use Rattle.proxy_core.specs.declared.steps.fallback.FallbackDecision.{FallbackDecision}
+use Rattle.proxy_core.specs.declared.steps.fallback.FallbackDecision.TheVariants.{Sends, Refuses}
 use Rattle.proxy_core.specs.declared.outcome.Outcome.{Outcome}
 use Rattle.proxy_core.specs.declared.outcome.Outcome.TheVariants.{Reply, Forward, Waits, Ended, WaitsNoMore}
 use Rattle.proxy_core.specs.declared.event.Event.{Event}
 use Rattle.proxy_core.specs.declared.event.Event.TheVariants.{Arrive, Answer, Fail, Wake, Abandon, Overdue}
 use Rattle.proxy_core.specs.declared.core_fault.CoreFault.{CoreFault}
 use Rattle.proxy_core.specs.Moments.{moment_too_late_fault}
-use Rattle.proxy_core.specs.Leading.{is_forwarded, is_waiting, is_released, waits_for, is_get, is_uri_miss, option_names_serial, exchange_asks_for_awaited, answer_may_be_shared_with, answer_may_serve, is_leader_for_request, leader, wakeable_ids}
+use Rattle.proxy_core.specs.Leading.{is_forwarded, is_waiting, is_released, waits_for, is_get, is_uri_miss, option_names_serial, exchange_went_forward_for_awaited, answer_may_be_shared_with, answer_may_serve, is_leader_for_request, leader, wakeable_ids}
 use Rattle.proxy_core.specs.Awaiting.{no_cache_request_is_heeded, RequestMayAwaitAnother, leader_of_request}
 use Rattle.proxy_core.specs.declared.open.awaited.Awaited.{Awaited}
 use Rattle.proxy_core.specs.declared.open.awaited.Awaited.TheVariants.{Missing, Expired}
-use Rattle.proxy_core.specs.Validating.{condition_about_serial}
-use Rattle.proxy_core.specs.Outcomes.{find_exchange, exchange_id_of_event, outcome_of_arrival, outcome_of_allowed_request, outcome_of_waiting_or_forwarding, revalidating_status_info, outcome_unless_stale_is_sent, outcome_without_stored_response, is_only_if_cached, fallback_for_failed_answer, outcome_of_failure, outcome_of_wake, outcome_for_exchange, outcome_of_event, fault_else, fault_if_not_released, fault_at_exchange, step_fault, forward_text}
+use Rattle.proxy_core.specs.Validating.{condition_to_revalidate_serial}
+use Rattle.proxy_core.specs.Outcomes.{find_exchange, exchange_id_of_event, outcome_of_arrival, outcome_of_allowed_request, outcome_of_waiting_or_forwarding, stale_while_revalidating_info, outcome_unless_stale_is_sent, outcome_where_reuse_rule_applies, is_only_if_cached, fallback_for_failed_answer, outcome_of_failure, outcome_of_wake, outcome_of_event_at_exchange, outcome_of_event, fault_else, fault_if_not_released, fault_at_exchange, step_fault, forward_text}
 use Rattle.proxy_core.specs.Scopes.{Scope, key_is_in_scope}
-use Rattle.proxy_core.specs.State.{State, overtaken_exchange, released_exchange, forwarded_exchange, rule_of_decision, serial_named_by_decision, open_exchanges_after, serial_used_by_outcome}
+use Rattle.proxy_core.specs.State.{State, exchange_overtaken_if_in_scope, exchange_released_from_leader, forwarded_exchange, rule_of_decision, serial_named_by_rule_of_decision, open_exchanges_after_event, serial_used_by_outcome}
 use Rattle.proxy_core.specs.Starts.{StoreAtStart}
-use Rattle.proxy_core.specs.Traces.{Item, initial_state, state_after_trace, IsGood}
+use Rattle.proxy_core.specs.Traces.{Item, initial_state, state_after_trace, TraceIsGood}
 use Rattle.proxy_core.specs.Histories.{held_entries, open_exchanges, next_serial, IsGoodHistory}
 use Rattle.proxy_core.specs.Promises.{outcome_ends_exchange, is_arrival_event}
 use Rattle.proxy_core.specs.Carrying.{IdArrivesBeforeOtherId, IdsAreInOrderOfArrival, ids_of_exchanges}
 use Rattle.proxy_core.specs.Sending.{StoredResponseIsReusable, MayBeSentWhileLeaderRevalidates}
-use Rattle.proxy_core.specs.Waiting.{RequestCouldWait, RequestWaitsWhereALeaderIsOpen, ArrivingRequestWaitsForLeader, RequestWaitsNowhereElse, exchange_has_closed, went_forward_for, OnlyOneGetPerKeyGoesForward, LineWithoutWaitWaitsForMissesOnly, ExchangeMayBeWoken, ReleasedAreInOrderOfArrival, WakeIsAcceptedExactlyWhereReady, WokenRequestIsJudgedAnew}
+use Rattle.proxy_core.specs.Waiting.{RequestCouldWait, RequestWaitsWhereALeaderIsOpen, ArrivingRequestWaitsForLeader, RequestWaitsOnlyWhereALeaderIsOpen, open_exchange_has_ended, went_forward_for_awaited, OnlyOneGetPerKeyGoesForward, LineWithoutWaitWaitsForMissesOnly, ExchangeMayBeWoken, ReleasedAreInOrderOfArrival, WakeIsAcceptedExactlyWhereReady, WokenRequestIsJudgedAnew}
 use Rattle.proxy_core.proofs.Awaits.{one_named}
 use Rattle.proxy_core.proofs.Leads.{led_by, led_for, first_leads, is_led, no_leader}
 use Rattle.proxy_core.proofs.ExchangeLists.{changed_by, find-push}
@@ -86,7 +86,7 @@ some_leads policy awaited asked id (x ∷ xs) z f h = by_test (λ g. some_leads 
 -- ---- who waits
 
 -- what becomes of a GET that may wait, where one leads
-waits_for_it : (table : Table) (start : StoreAtStart) (first now id : ℕ) (line : RequestRoute) (l : ℕ) (asked : Asked) (awaited : Awaited) (item : Item) (past : List Item) → IsGoodHistory table start first (item ∷ past) →
+waits_for_it : (table : Table) (start : StoreAtStart) (first now id : ℕ) (line : RouteOverLine) (l : ℕ) (asked : Asked) (awaited : Awaited) (item : Item) (past : List Item) → IsGoodHistory table start first (item ∷ past) →
     item.event ≡ Arrive now id asked → RequestCouldWait table start past now line asked awaited → leader (policy_of table.lines line) awaited asked (exchanges_to_wait_for table line asked (open_exchanges table start past)) ≡ Some l →
     ((s : ℕ) → MayBeSentWhileLeaderRevalidates (policy_of table.lines line) (held_entries table start past) (exchanges_to_wait_for table line asked (open_exchanges table start past)) asked now s → ⊥) → item.outcome ≡ Waits l
 waits_for_it table start first now id line l asked awaited item past g e could led never =
@@ -98,10 +98,10 @@ waits_for_it table start first now id line l asked awaited item past g e could l
     arrival_is table start first now id asked item past g e
     ∙ (ap (λ (v : Verdict). outcome_of_arrival table es xs now asked v) could.line_allows
     ∙ (ap (λ (d : Decision). outcome_of_allowed_request table es xs line now asked d) d.1
-    ∙ (ap (λ b. outcome_without_stored_response table es xs line now asked rule (condition_about_serial es d.0) b) could.is_not_only_if_cached
-    ∙ (ap (λ (o : Option ℕ). outcome_unless_stale_is_sent table es line now asked o (outcome_of_waiting_or_forwarding table line asked (condition_about_serial es d.0) (led_over table es xs line asked rule)))
+    ∙ (ap (λ b. outcome_where_reuse_rule_applies table es xs line now asked rule (condition_to_revalidate_serial es d.0) b) could.is_not_only_if_cached
+    ∙ (ap (λ (o : Option ℕ). outcome_unless_stale_is_sent table es line now asked o (outcome_of_waiting_or_forwarding table line asked (condition_to_revalidate_serial es d.0) (led_over table es xs line asked rule)))
     (nothing_beside (policy_of table.lines line) es (held_distinct table start first past g.1) (exchanges_to_wait_for table line asked xs) asked now rule least never could.is_not_only_if_cached)
-    ∙ ap (λ (o : Option ℕ). outcome_of_waiting_or_forwarding table line asked (condition_about_serial es d.0) o) (led_for (policy_of table.lines line) es (held_distinct table start first past g.1) (exchanges_to_wait_for table line asked xs) asked now rule least awaited l could.awaits led)))))
+    ∙ ap (λ (o : Option ℕ). outcome_of_waiting_or_forwarding table line asked (condition_to_revalidate_serial es d.0) o) (led_for (policy_of table.lines line) es (held_distinct table start first past g.1) (exchanges_to_wait_for table line asked xs) asked now rule least awaited l could.awaits led)))))
 
 pub waits_where_one_leads : RequestWaitsWhereALeaderIsOpen
 waits_where_one_leads table start first now id line l asked awaited item past g e could f never =
@@ -111,7 +111,7 @@ waits_where_one_leads table start first now id line l asked awaited item past g 
 -- what is known of a request that waits
 abbrev WaitsBy : Table → List Stored → List Exchange → ℕ → ℕ → Asked → Type 0
 WaitsBy table es xs now l asked =
-    (line : RequestRoute) × (verdict_of_asked table asked ≡ verdict.Allowed line) × (is_only_if_cached asked ≡ false)
+    (line : RouteOverLine) × (verdict_of_asked table asked ≡ verdict.Allowed line) × (is_only_if_cached asked ≡ false)
     × ((awaited : Awaited) × RequestMayAwaitAnother (policy_of table.lines line) es asked now awaited × (leader (policy_of table.lines line) awaited asked (exchanges_to_wait_for table line asked xs) ≡ Some l))
 
 wait_parts : (table : Table) (es : List Stored) (distinct : SerialsAreDistinct (serials es)) (xs : List Exchange) (now l : ℕ) (asked : Asked) (v : Verdict) → verdict_of_asked table asked ≡ v →
@@ -119,18 +119,18 @@ wait_parts : (table : Table) (es : List Stored) (distinct : SerialsAreDistinct (
 wait_parts table es distinct xs now l asked (verdict.Allowed line) v h = by_decision (decision_of (policy_of table.lines line) es asked now) refl h
   where
     by_leader : (rule : ReuseRule) (against o : Option ℕ) → leader_of_request (policy_of table.lines line) es (exchanges_to_wait_for table line asked xs) asked rule ≡ o → is_only_if_cached asked ≡ false →
-        decision_of (policy_of table.lines line) es asked now ≡ decision.Forward rule against → outcome_of_waiting_or_forwarding table line asked (condition_about_serial es against) o ≡ Waits l → WaitsBy table es xs now l asked
+        decision_of (policy_of table.lines line) es asked now ≡ decision.Forward rule against → outcome_of_waiting_or_forwarding table line asked (condition_to_revalidate_serial es against) o ≡ Waits l → WaitsBy table es xs now l asked
     by_leader rule against None k c d h = absurd (cc)
     by_leader rule against (Some m) k c d h =
         let same : m ≡ l = cc in
         (line, v, c, is_led (policy_of table.lines line) es distinct (exchanges_to_wait_for table line asked xs) asked now rule (names_the_least (policy_of table.lines line) es asked now rule against d).0 l (k ∙ ap (λ n. Some n) same))
 
     unless : (rule : ReuseRule) (against : Option ℕ) (b : Bool) → is_only_if_cached asked ≡ b → decision_of (policy_of table.lines line) es asked now ≡ decision.Forward rule against →
-        outcome_without_stored_response table es xs line now asked rule (condition_about_serial es against) b ≡ Waits l → WaitsBy table es xs now l asked
+        outcome_where_reuse_rule_applies table es xs line now asked rule (condition_to_revalidate_serial es against) b ≡ Waits l → WaitsBy table es xs now l asked
     unless rule against true k d h = absurd (cc)
     unless rule against false k d h =
-        unless_sent (λ (o : Outcome). o ≡ Waits l → WaitsBy table es xs now l asked) table es line now asked (sent_over table es xs line now asked rule) (outcome_of_waiting_or_forwarding table line asked (condition_about_serial es against) (led_over table es xs line asked rule))
-        (λ t is waits. absurd (sent_is_no_wait table es t now (revalidating_status_info (policy_of table.lines line)) asked l waits))
+        unless_sent (λ (o : Outcome). o ≡ Waits l → WaitsBy table es xs now l asked) table es line now asked (sent_over table es xs line now asked rule) (outcome_of_waiting_or_forwarding table line asked (condition_to_revalidate_serial es against) (led_over table es xs line asked rule))
+        (λ t is waits. absurd (sent_is_no_wait table es t now (stale_while_revalidating_info (policy_of table.lines line)) asked l waits))
         (λ waits. by_leader rule against (led_over table es xs line asked rule) refl k d waits) h
 
     by_decision : (d : Decision) → decision_of (policy_of table.lines line) es asked now ≡ d → outcome_of_allowed_request table es xs line now asked d ≡ Waits l → WaitsBy table es xs now l asked
@@ -156,7 +156,7 @@ either_no_wait (Waits l) h = absurd (false≢true h)
 either_no_wait Ended h = absurd (false≢true h)
 either_no_wait WaitsNoMore h = absurd (false≢true h)
 
-pub late_no_wait : (table : Table) (es : List Stored) (xs : List Exchange) (w : Option Exchange) (next : Option ℕ) (event : Event) → is_arrival_event event ≡ false → is_wait (outcome_for_exchange table es xs w next event) ≡ false
+pub late_no_wait : (table : Table) (es : List Stored) (xs : List Exchange) (w : Option Exchange) (next : Option ℕ) (event : Event) → is_arrival_event event ≡ false → is_wait (outcome_of_event_at_exchange table es xs w next event) ≡ false
 late_no_wait table es xs w next (Arrive now id asked) h = absurd (false≢true (sym h))
 late_no_wait table es xs None next (Answer now id r) h = refl
 late_no_wait table es xs (Some x) next (Answer now id r) h =
@@ -164,7 +164,7 @@ late_no_wait table es xs (Some x) next (Answer now id r) h =
 late_no_wait table es xs None next (Fail now id kind) h = refl
 late_no_wait table es xs (Some x) next (Fail now id kind) h = by_fallback (fallback_for_failed_answer (policy_of table.lines x.line) es x.asked now (decision_of (policy_of table.lines x.line) es x.asked now))
   where
-    by_fallback : (fallback : Fallback) → is_wait (outcome_of_failure table es now x kind None fallback) ≡ false
+    by_fallback : (fallback : FallbackDecision) → is_wait (outcome_of_failure table es now x kind None fallback) ≡ false
     by_fallback (Sends s detail) = refl
     by_fallback (Refuses rule error) = refl
 late_no_wait table es xs None next (Wake now id) h = refl
@@ -179,7 +179,7 @@ late_no_wait table es xs w next (Overdue id) h = refl
 wait_is : (l : ℕ) → is_wait (Waits l) ≡ true
 wait_is l = refl
 
-pub waits_nowhere_else : RequestWaitsNowhereElse
+pub waits_nowhere_else : RequestWaitsOnlyWhereALeaderIsOpen
 waits_nowhere_else table start first l item past g h = by_event item.event refl
   where
     es : List Stored
@@ -310,7 +310,7 @@ pub woken_is_judged_anew : WokenRequestIsJudgedAnew
 woken_is_judged_anew table start first now id item past g e =
     let r = ready_by xs now id (ap (step_fault xs) (sym e) ∙ g.0.allowed) in
     let is : item.outcome ≡ outcome_of_wake table es now r.x (decision_of (policy_of table.lines r.x.line) es r.x.asked now) =
-    g.0.outcome_is ∙ (ap (λ (v : Event). outcome_of_event table es xs (next_serial first past) v) e ∙ ap (λ (w : Option Exchange). outcome_for_exchange table es xs w (next_serial first past) (Wake now id)) r.is_open) in
+    g.0.outcome_is ∙ (ap (λ (v : Event). outcome_of_event table es xs (next_serial first past) v) e ∙ ap (λ (w : Option Exchange). outcome_of_event_at_exchange table es xs w (next_serial first past) (Wake now id)) r.is_open) in
     record { x = r.x; is_open = r.is_open; gets = by_decision r.x (decision_of (policy_of table.lines r.x.line) es r.x.asked now) refl is }
   where
     es : List Stored
@@ -323,7 +323,7 @@ woken_is_judged_anew table start first now id item past g e =
         ((s : ℕ) × StoredResponseIsReusable (policy_of table.lines x.line) es x.asked now s × (serial_used_by_outcome item.outcome ≡ Some s))
         ⊎ ((rule : ReuseRule) × (bytes : List ℕ) × IsLeastReuseRule (policy_of table.lines x.line) es x.asked now rule × (item.outcome ≡ Forward x.line bytes))
     by_decision x (decision.Hit s) d is = inl (s, reused_is_allowed (policy_of table.lines x.line) es x.asked now s d, ap serial_used_by_outcome is)
-    by_decision x (decision.Forward rule against) d is = inr (rule, forward_text table x.line x.asked (condition_about_serial es against), (names_the_least (policy_of table.lines x.line) es x.asked now rule against d).0, is)
+    by_decision x (decision.Forward rule against) d is = inr (rule, forward_text table x.line x.asked (condition_to_revalidate_serial es against), (names_the_least (policy_of table.lines x.line) es x.asked now rule against d).0, is)
 
 -- ---- one goes forward
 
@@ -346,7 +346,7 @@ module _ (table : Table) (start : StoreAtStart) (first now id : ℕ) (rule : Reu
   abbrev its : List Item → Option Exchange
   its items = find_exchange id (state_after_trace began (items ++ first_item ∷ before)).exchanges
 
-  overtaken_at : (key : Scope) (x : Exchange) → AtTheOrigin rule named asked (Some x) → AtTheOrigin rule named asked (Some (overtaken_exchange key x))
+  overtaken_at : (key : Scope) (x : Exchange) → AtTheOrigin rule named asked (Some x) → AtTheOrigin rule named asked (Some (exchange_overtaken_if_in_scope key x))
   overtaken_at key x a = by_test (key_is_in_scope key x.asked.target.key)
     where
       same : a.x ≡ x
@@ -363,7 +363,7 @@ module _ (table : Table) (start : StoreAtStart) (first now id : ℕ) (rule : Reu
       }
       by_test false = a
 
-  released_at : (i : ℕ) (x : Exchange) → AtTheOrigin rule named asked (Some x) → AtTheOrigin rule named asked (Some (released_exchange i x))
+  released_at : (i : ℕ) (x : Exchange) → AtTheOrigin rule named asked (Some x) → AtTheOrigin rule named asked (Some (exchange_released_from_leader i x))
   released_at i x a =
       let stage : x.stage ≡ Forwarded = ap (λ (z : Exchange). z.stage) (same_Some x a.x a.y_is) ∙ a.stage in
       subst (λ b. AtTheOrigin rule named asked (Some (cond b (record x { stage = Released }) x))) (sym (ap (waits_for i) stage)) a
@@ -375,9 +375,9 @@ module _ (table : Table) (start : StoreAtStart) (first now id : ℕ) (rule : Reu
   changed_at None None (Some x) a = a
   changed_at None (Some i) (Some x) a = released_at i x a
   changed_at (Some key) None (Some x) a = overtaken_at key x a
-  changed_at (Some key) (Some i) (Some x) a = overtaken_at key (released_exchange i x) (released_at i x a)
+  changed_at (Some key) (Some i) (Some x) a = overtaken_at key (exchange_released_from_leader i x) (released_at i x a)
 
-  origin_more : (i : Item) (items : List Item) (w x y : Option Exchange) → Move id w i.event i.outcome x y → AtTheOrigin rule named asked x → (exchange_has_closed id (i ∷ items) ≡ true) ⊎ AtTheOrigin rule named asked y
+  origin_more : (i : Item) (items : List Item) (w x y : Option Exchange) → Move id w i.event i.outcome x y → AtTheOrigin rule named asked x → (open_exchange_has_ended id (i ∷ items) ≡ true) ⊎ AtTheOrigin rule named asked y
   origin_more i items w x y (apart n h) a = inr (subst (AtTheOrigin rule named asked) (sym h) (changed_at (key_taken_by_step (asked_of w) i.event i.outcome) (ended_by i.event i.outcome) x a))
   origin_more i items w x y (opens at es t r line e x_is f h) a =
       let none : None ≡ Some a.x = sym x_is ∙ a.y_is in
@@ -401,19 +401,19 @@ module _ (table : Table) (start : StoreAtStart) (first now id : ℕ) (rule : Reu
       let same : z.stage ≡ Forwarded = ap (λ (v : Exchange). v.stage) (same_Some z a.x (sym x_is ∙ a.y_is)) ∙ a.stage in
       absurd (false≢true (sym (ap is_waiting same) ∙ s))
   origin_more i items w x y (closes z t e x_is f h) a =
-      inl (ap (λ b. (b && (not (is_arrival_event i.event) && outcome_ends_exchange i.outcome)) || exchange_has_closed id items) t ∙ (ap (λ b. (not b && outcome_ends_exchange i.outcome) || exchange_has_closed id items) e ∙ ap (λ b. b || exchange_has_closed id items) f))
+      inl (ap (λ b. (b && (not (is_arrival_event i.event) && outcome_ends_exchange i.outcome)) || open_exchange_has_ended id items) t ∙ (ap (λ b. (not b && outcome_ends_exchange i.outcome) || open_exchange_has_ended id items) e ∙ ap (λ b. b || open_exchange_has_ended id items) f))
 
-  origin : (items : List Item) → IsGood began (items ++ first_item ∷ before) → AtTheOrigin rule named asked (its []) → (exchange_has_closed id items ≡ true) ⊎ AtTheOrigin rule named asked (its items)
+  origin : (items : List Item) → TraceIsGood began (items ++ first_item ∷ before) → AtTheOrigin rule named asked (its []) → (open_exchange_has_ended id items ≡ true) ⊎ AtTheOrigin rule named asked (its items)
   origin [] g a = inr a
   origin (i ∷ items) g a = by_rest (origin items g.1 a)
     where
-      by_rest : (exchange_has_closed id items ≡ true) ⊎ AtTheOrigin rule named asked (its items) → (exchange_has_closed id (i ∷ items) ≡ true) ⊎ AtTheOrigin rule named asked (its (i ∷ items))
+      by_rest : (open_exchange_has_ended id items ≡ true) ⊎ AtTheOrigin rule named asked (its items) → (open_exchange_has_ended id (i ∷ items) ≡ true) ⊎ AtTheOrigin rule named asked (its (i ∷ items))
       by_rest (inl c) = inl (ap (λ b. (eqb (exchange_id_of_event i.event) id && (not (is_arrival_event i.event) && outcome_ends_exchange i.outcome)) || b) c ∙ sym (or_true (eqb (exchange_id_of_event i.event) id && (not (is_arrival_event i.event) && outcome_ends_exchange i.outcome))))
       by_rest (inr a) = origin_more i items _ (its items) (its (i ∷ items)) (move_of table (state_after_trace began (items ++ first_item ∷ before)) i id (same_table began (items ++ first_item ∷ before)) g.0) a
 
 -- it is, right behind the arrival at which it goes there
-at_the_arrival : (table : Table) (start : StoreAtStart) (first now id : ℕ) (line : RequestRoute) (rule : ReuseRule) (named : Option ℕ) (asked : Asked) (bytes : List ℕ) (before : List Item) (o : Outcome) → o ≡ Forward line bytes →
-    IsGood (initial_state table start first) (record { event = Arrive now id asked; outcome = o } ∷ before) →
+at_the_arrival : (table : Table) (start : StoreAtStart) (first now id : ℕ) (line : RouteOverLine) (rule : ReuseRule) (named : Option ℕ) (asked : Asked) (bytes : List ℕ) (before : List Item) (o : Outcome) → o ≡ Forward line bytes →
+    TraceIsGood (initial_state table start first) (record { event = Arrive now id asked; outcome = o } ∷ before) →
     IsLeastReuseRule (policy_of table.lines line) (held_entries table start before) asked now rule → RuleOnChosenNamesItsSerial (held_entries table start before) asked rule named →
     AtTheOrigin rule named asked (find_exchange id (state_after_trace (initial_state table start first) (record { event = Arrive now id asked; outcome = o } ∷ before)).exchanges)
 at_the_arrival table start first now id line rule named asked bytes before o went g least names =
@@ -428,11 +428,11 @@ at_the_arrival table start first now id line rule named asked bytes before o wen
     let free : find_exchange id s.exchanges ≡ None = id_was_free (find_exchange id s.exchanges) now id asked g.0.allowed in
     record {
       x = y;
-      y_is = ap (λ (o : Outcome). find_exchange id (open_exchanges_after s.table s.entries s.exchanges (Arrive now id asked) o)) went
+      y_is = ap (λ (o : Outcome). find_exchange id (open_exchanges_after_event s.table s.entries s.exchanges (Arrive now id asked) o)) went
           ∙ (find-push id s.exchanges y free ∙ ap (λ b. cond b (Some y) (find_exchange id s.exchanges)) (eq-eqb id id refl));
       asked_is = refl;
       rule_is = ap rule_of_decision decided;
-      named_is = ap serial_named_by_decision decided ∙ one_named policy es asked now rule d.0 named (names_the_least policy es asked now rule d.0 d.1).1 names;
+      named_is = ap serial_named_by_rule_of_decision decided ∙ one_named policy es asked now rule d.0 named (names_the_least policy es asked now rule d.0 d.1).1 names;
       stage = refl;
     }
 
@@ -444,13 +444,13 @@ where_the_word_stands : (w b : Bool) → (w ≡ true → b ≡ true) → (not w 
 where_the_word_stands true b h = h refl
 where_the_word_stands false b h = refl
 
-asks_for_it : (awaited : Awaited) (rule : ReuseRule) (named : Option ℕ) (x : Exchange) → x.rule ≡ rule → x.named ≡ named → went_forward_for awaited rule named ≡ true → exchange_asks_for_awaited awaited x ≡ true
+asks_for_it : (awaited : Awaited) (rule : ReuseRule) (named : Option ℕ) (x : Exchange) → x.rule ≡ rule → x.named ≡ named → went_forward_for_awaited awaited rule named ≡ true → exchange_went_forward_for_awaited awaited x ≡ true
 asks_for_it Missing rule named x r n h = ap is_uri_miss r ∙ h
 asks_for_it (Expired serial) rule named x r n h = ap (λ m. option_names_serial m serial) n ∙ h
 
 pub one_goes_forward : OnlyOneGetPerKeyGoesForward
 one_goes_forward table start first line awaited rule named bytes now id asked later earlier between before g arrives forward stays awaits e gets whole same went serves =
-    ap (λ (v : Event). exchange_has_closed (exchange_id_of_event v) between) e.arrives
+    ap (λ (v : Event). open_exchange_has_ended (exchange_id_of_event v) between) e.arrives
     ∙ by_fate (origin table start first e.now e.id rule named e.asked before earlier.outcome between p
     (at_the_arrival table start first e.now e.id e.line rule named e.asked e.bytes before earlier.outcome e.forward (part (initial_state table start first) between (item ∷ before) p) e.is_least e.names))
   where
@@ -463,7 +463,7 @@ one_goes_forward table start first line awaited rule named bytes now id asked la
     g' : IsGoodHistory table start first (between ++ record { event = Arrive e.now e.id e.asked; outcome = earlier.outcome } ∷ before)
     g' = subst (λ (i : Item). IsGoodHistory table start first (between ++ i ∷ before)) item_is g.1
 
-    p : IsGood (initial_state table start first) (between ++ record { event = Arrive e.now e.id e.asked; outcome = earlier.outcome } ∷ before)
+    p : TraceIsGood (initial_state table start first) (between ++ record { event = Arrive e.now e.id e.asked; outcome = earlier.outcome } ∷ before)
     p = good_plain table start first (between ++ record { event = Arrive e.now e.id e.asked; outcome = earlier.outcome } ∷ before) g'
 
     policy : Policy
@@ -474,11 +474,11 @@ one_goes_forward table start first line awaited rule named bytes now id asked la
 
     its_leads : (x : Exchange) → x.asked ≡ e.asked → x.rule ≡ rule → x.named ≡ named → x.stage ≡ Forwarded → (policy.waits_for_stale ≡ true → answer_may_be_shared_with policy asked x ≡ true) → is_leader_for_request policy awaited asked x ≡ true
     its_leads x a r n t may =
-        all_five (same_key x.asked.target.key asked.target.key) (is_get x.asked) (is_forwarded x.stage) (exchange_asks_for_awaited awaited x) (answer_may_serve policy asked x)
+        all_five (same_key x.asked.target.key asked.target.key) (is_get x.asked) (is_forwarded x.stage) (exchange_went_forward_for_awaited awaited x) (answer_may_serve policy asked x)
         (ap (λ (q : Asked). same_key q.target.key asked.target.key) a ∙ same) (ap is_get a ∙ gets) (ap is_forwarded t) (asks_for_it awaited rule named x r n went)
         (ap (λ (q : Asked). not (forwards_range policy q) && (not policy.waits_for_stale || answer_may_be_shared_with policy asked x)) a ∙ (ap (λ b. not b && (not policy.waits_for_stale || answer_may_be_shared_with policy asked x)) whole ∙ where_the_word_stands policy.waits_for_stale (answer_may_be_shared_with policy asked x) may))
 
-    by_fate : (exchange_has_closed e.id between ≡ true) ⊎ AtTheOrigin rule named e.asked (its table start first e.now e.id rule named e.asked before earlier.outcome between) → exchange_has_closed e.id between ≡ true
+    by_fate : (open_exchange_has_ended e.id between ≡ true) ⊎ AtTheOrigin rule named e.asked (its table start first e.now e.id rule named e.asked before earlier.outcome between) → open_exchange_has_ended e.id between ≡ true
     by_fate (inl c) = c
     by_fate (inr a) =
         let at : find_exchange e.id (open_exchanges table start past) ≡ Some a.x =

@@ -15,16 +15,16 @@ use Rattle.proxy_core.specs.declared.event.Event.TheVariants.{Arrive, Answer, Fa
 use Rattle.proxy_core.specs.Leading.{is_forwarded, is_waiting, is_released, waits_for}
 use Rattle.proxy_core.specs.Outcomes.{find_exchange, exchange_id_of_event, outcome_of_event, step_fault}
 use Rattle.proxy_core.specs.Scopes.{Scope, key_is_in_scope}
-use Rattle.proxy_core.specs.State.{State, overtaken_exchange, released_exchange, waiting_exchange, open_exchanges_after, exchange_released_by_timeout}
+use Rattle.proxy_core.specs.State.{State, exchange_overtaken_if_in_scope, exchange_released_from_leader, exchange_begun_waiting, open_exchanges_after_event, exchange_released_by_timeout}
 use Rattle.proxy_core.specs.Starts.{StoreAtStart}
-use Rattle.proxy_core.specs.Traces.{Item, ItemIsAccepted, initial_state, state_after_trace, IsGood}
-use Rattle.proxy_core.specs.Promises.{outcome_goes_forward, outcome_ends_exchange, is_arrival_event, NoRequestArrives}
-use Rattle.proxy_core.specs.TraceMeaning.{opens_an_exchange}
-use Rattle.proxy_core.specs.Waiting.{is_wake_event, request_was_woken, is_overdue_event, NothingButItsTimeoutHappened, stage_of_exchange, leader_of_stage, stage_of_waiter, leader_after_abandon, leader_after_end, leader_after_item, leader_of_waiter, ExchangeMayBeWoken, RequestWaitsUntilLeaderEndsOrTimeout, RequestIsWokenOnceAfterLeaderOrTimeout}
+use Rattle.proxy_core.specs.Traces.{Item, ItemIsAccepted, initial_state, state_after_trace, TraceIsGood}
+use Rattle.proxy_core.specs.Promises.{outcome_goes_forward, outcome_ends_exchange, is_arrival_event, NoRequestOfIdArrives}
+use Rattle.proxy_core.specs.TraceMeaning.{outcome_opens_exchange}
+use Rattle.proxy_core.specs.Waiting.{is_wake_event, request_was_woken, is_overdue_event, NothingButItsTimeoutHappened, stage_of_exchange, leader_of_stage, stage_with_leader_if_any, leader_after_abandon, leader_after_end, leader_of_waiter_after_item, leader_of_waiter, ExchangeMayBeWoken, RequestWaitsUntilLeaderEndsOrTimeout, RequestIsWokenOnceAfterLeaderOrTimeout}
 use Rattle.proxy_core.proofs.Waits.{is_wait, ready_by}
 use Rattle.std.specs.Option.{option_and_then}
 use Rattle.proxy_core.specs.declared.open.as_next_leader.NextLeader.{NextLeader}
-use Rattle.proxy_core.specs.LeadingOn.{wait_is_limited, next_leader, stage_after_leader, after_abandon, exchanges_without}
+use Rattle.proxy_core.specs.LeadingOn.{wait_is_limited, next_leader, stage_after_leader, waiter_after_abandon, exchanges_without}
 use Rattle.proxy_core.proofs.LedOn.{behind_is, led_on-stage}
 use Rattle.proxy_core.proofs.ExchangeLists.{changed_by, find-abandoned, find-without}
 use Rattle.proxy_core.proofs.Moves.{Move, apart, opens, queues, passes, again, wakes, closes, turns, lapses, asked_of, ended_by, move_of, and_none, key_taken_by_step}
@@ -38,13 +38,13 @@ abbrev stage_by : Option ℕ → Stage → Stage
 stage_by None s = s
 stage_by (Some i) s = cond (waits_for i s) Released s
 
-overtaken_stage : (key : Scope) (x : Exchange) → (overtaken_exchange key x).stage ≡ x.stage
+overtaken_stage : (key : Scope) (x : Exchange) → (exchange_overtaken_if_in_scope key x).stage ≡ x.stage
 overtaken_stage key x = elim (key_is_in_scope key x.asked.target.key) as (λ b. (cond b (record x { overtaken = true }) x).stage ≡ x.stage) [
   | true ↦ refl
   | false ↦ refl
 ]
 
-released_stage : (i : ℕ) (x : Exchange) → (released_exchange i x).stage ≡ cond (waits_for i x.stage) Released x.stage
+released_stage : (i : ℕ) (x : Exchange) → (exchange_released_from_leader i x).stage ≡ cond (waits_for i x.stage) Released x.stage
 released_stage i x = elim (waits_for i x.stage) as (λ b. (cond b (record x { stage = Released }) x).stage ≡ cond b Released x.stage) [
   | true ↦ refl
   | false ↦ refl
@@ -52,10 +52,10 @@ released_stage i x = elim (waits_for i x.stage) as (λ b. (cond b (record x { st
 
 stage_changed : (key : Option Scope) (gone : Option ℕ) (x : Exchange) (o : Option Exchange) → o ≡ Some x → (z : Exchange) × (changed_by key gone o ≡ Some z) × (z.stage ≡ stage_by gone x.stage)
 stage_changed None None x o h = (x, h, refl)
-stage_changed None (Some i) x o h = (released_exchange i x, ap (option_map (released_exchange i)) h, released_stage i x)
-stage_changed (Some key) None x o h = (overtaken_exchange key x, ap (option_map (overtaken_exchange key)) h, overtaken_stage key x)
+stage_changed None (Some i) x o h = (exchange_released_from_leader i x, ap (option_map (exchange_released_from_leader i)) h, released_stage i x)
+stage_changed (Some key) None x o h = (exchange_overtaken_if_in_scope key x, ap (option_map (exchange_overtaken_if_in_scope key)) h, overtaken_stage key x)
 stage_changed (Some key) (Some i) x o h =
-    (overtaken_exchange key (released_exchange i x), ap (λ (o : Option Exchange). option_map (overtaken_exchange key) (option_map (released_exchange i) o)) h, overtaken_stage key (released_exchange i x) ∙ released_stage i x)
+    (exchange_overtaken_if_in_scope key (exchange_released_from_leader i x), ap (λ (o : Option Exchange). option_map (exchange_overtaken_if_in_scope key) (option_map (exchange_released_from_leader i) o)) h, overtaken_stage key (exchange_released_from_leader i x) ∙ released_stage i x)
 
 other_way : (a b : ℕ) → eqb a b ≡ eqb b a
 other_way a b = by_test (eqb a b) refl
@@ -87,41 +87,41 @@ stays_released (Some i) = refl
 
 -- a step of another id by which nobody leads on
 stage_more : (table : Table) (xs : List Exchange) (id : ℕ) (i : Item) (leads : Option ℕ) → eqb (exchange_id_of_event i.event) id ≡ false → is_abandon_event i.event ≡ false →
-    stage_by (ended_by i.event i.outcome) (stage_of_waiter leads) ≡ stage_of_waiter (option_and_then (λ l. leader_after_item table xs id l i) leads)
+    stage_by (ended_by i.event i.outcome) (stage_with_leader_if_any leads) ≡ stage_with_leader_if_any (option_and_then (λ l. leader_of_waiter_after_item table xs id l i) leads)
 stage_more table xs id i None n k = stays_released (ended_by i.event i.outcome)
 stage_more table xs id i (Some l) n k =
     by_end (not (is_arrival_event i.event) && outcome_ends_exchange i.outcome)
-    ∙ sym (ap (λ b. stage_of_waiter (cond (b && is_overdue_event i.event) None (cond (eqb (exchange_id_of_event i.event) l && (not (is_arrival_event i.event) && outcome_ends_exchange i.outcome)) (leader_after_end table xs id l i.event) (Some l)))) n
-    ∙ ap (λ (o : Option ℕ). stage_of_waiter (cond (eqb (exchange_id_of_event i.event) l && (not (is_arrival_event i.event) && outcome_ends_exchange i.outcome)) o (Some l))) (none_leads_on table xs id l i.event k))
+    ∙ sym (ap (λ b. stage_with_leader_if_any (cond (b && is_overdue_event i.event) None (cond (eqb (exchange_id_of_event i.event) l && (not (is_arrival_event i.event) && outcome_ends_exchange i.outcome)) (leader_after_end table xs id l i.event) (Some l)))) n
+    ∙ ap (λ (o : Option ℕ). stage_with_leader_if_any (cond (eqb (exchange_id_of_event i.event) l && (not (is_arrival_event i.event) && outcome_ends_exchange i.outcome)) o (Some l))) (none_leads_on table xs id l i.event k))
   where
-    by_id : (b : Bool) → cond b Released (Waiting l) ≡ stage_of_waiter (cond (b && true) None (Some l))
+    by_id : (b : Bool) → cond b Released (Waiting l) ≡ stage_with_leader_if_any (cond (b && true) None (Some l))
     by_id true = refl
     by_id false = refl
 
-    by_end : (c : Bool) → stage_by (cond c (Some (exchange_id_of_event i.event)) None) (Waiting l) ≡ stage_of_waiter (cond (eqb (exchange_id_of_event i.event) l && c) None (Some l))
-    by_end false = sym (ap (λ b. stage_of_waiter (cond b None (Some l))) (and_none (eqb (exchange_id_of_event i.event) l)))
+    by_end : (c : Bool) → stage_by (cond c (Some (exchange_id_of_event i.event)) None) (Waiting l) ≡ stage_with_leader_if_any (cond (eqb (exchange_id_of_event i.event) l && c) None (Some l))
+    by_end false = sym (ap (λ b. stage_with_leader_if_any (cond b None (Some l))) (and_none (eqb (exchange_id_of_event i.event) l)))
     by_end true = ap (λ b. cond b Released (Waiting l)) (other_way l (exchange_id_of_event i.event)) ∙ by_id (eqb (exchange_id_of_event i.event) l)
 
 -- it is the stage of one that waits for the next leader, or for nobody
-of_its_leader : (table : Table) (next : Option NextLeader) (x : Exchange) → stage_after_leader table next x ≡ stage_of_waiter (leader_of_stage (stage_after_leader table next x))
+of_its_leader : (table : Table) (next : Option NextLeader) (x : Exchange) → stage_after_leader table next x ≡ stage_with_leader_if_any (leader_of_stage (stage_after_leader table next x))
 of_its_leader table next x = by_stage (behind_is table next x)
   where
-    by_stage : (stage_after_leader table next x ≡ Released) ⊎ ((l : ℕ) × (stage_after_leader table next x ≡ Waiting l) × (wait_is_limited table x ≡ true)) → stage_after_leader table next x ≡ stage_of_waiter (leader_of_stage (stage_after_leader table next x))
-    by_stage (inl r) = r ∙ sym (ap (λ (s : Stage). stage_of_waiter (leader_of_stage s)) r)
-    by_stage (inr w) = w.1 ∙ sym (ap (λ (s : Stage). stage_of_waiter (leader_of_stage s)) w.1)
+    by_stage : (stage_after_leader table next x ≡ Released) ⊎ ((l : ℕ) × (stage_after_leader table next x ≡ Waiting l) × (wait_is_limited table x ≡ true)) → stage_after_leader table next x ≡ stage_with_leader_if_any (leader_of_stage (stage_after_leader table next x))
+    by_stage (inl r) = r ∙ sym (ap (λ (s : Stage). stage_with_leader_if_any (leader_of_stage s)) r)
+    by_stage (inr w) = w.1 ∙ sym (ap (λ (s : Stage). stage_with_leader_if_any (leader_of_stage s)) w.1)
 
 -- the client of another goes away
-stage_abandoned : (table : Table) (xs : List Exchange) (id j : ℕ) (o : Outcome) (x : Exchange) (leads : Option ℕ) → eqb j id ≡ false → o ≡ Ended → find_exchange id xs ≡ Some x → x.stage ≡ stage_of_waiter leads →
+stage_abandoned : (table : Table) (xs : List Exchange) (id j : ℕ) (o : Outcome) (x : Exchange) (leads : Option ℕ) → eqb j id ≡ false → o ≡ Ended → find_exchange id xs ≡ Some x → x.stage ≡ stage_with_leader_if_any leads →
     cond (waits_for j x.stage) (stage_after_leader table (next_leader table j xs) x) x.stage
-    ≡ stage_of_waiter (option_and_then (λ l. leader_after_item table xs id l (record { event = Abandon j; outcome = o })) leads)
+    ≡ stage_with_leader_if_any (option_and_then (λ l. leader_of_waiter_after_item table xs id l (record { event = Abandon j; outcome = o })) leads)
 stage_abandoned table xs id j o x None n e f s =
     ap (λ (t : Stage). cond (waits_for j t) (stage_after_leader table (next_leader table j xs) x) t) s
 stage_abandoned table xs id j o x (Some l) n e f s =
     ap (λ (t : Stage). cond (waits_for j t) (stage_after_leader table (next_leader table j xs) x) t) s
     ∙ (ap (λ b. cond b (stage_after_leader table (next_leader table j xs) x) (Waiting l)) (other_way l j)
     ∙ (by_id (eqb j l) refl
-    ∙ sym (ap (λ b. stage_of_waiter (cond (b && false) None (cond (eqb j l && (true && outcome_ends_exchange o)) (leader_after_abandon table xs id l) (Some l)))) n
-    ∙ ap (λ (o : Outcome). stage_of_waiter (cond (eqb j l && (true && outcome_ends_exchange o)) (leader_after_abandon table xs id l) (Some l))) e)))
+    ∙ sym (ap (λ b. stage_with_leader_if_any (cond (b && false) None (cond (eqb j l && (true && outcome_ends_exchange o)) (leader_after_abandon table xs id l) (Some l)))) n
+    ∙ ap (λ (o : Outcome). stage_with_leader_if_any (cond (eqb j l && (true && outcome_ends_exchange o)) (leader_after_abandon table xs id l) (Some l))) e)))
   where
     followed : eqb j l ≡ true → leader_after_abandon table xs id l ≡ leader_of_stage (stage_after_leader table (next_leader table j xs) x)
     followed t =
@@ -129,8 +129,8 @@ stage_abandoned table xs id j o x (Some l) n e f s =
         ∙ ap (λ (w : Option Exchange). option_and_then (λ (x : Exchange). leader_of_stage (stage_after_leader table (next_leader table j xs) x)) w)
         (find-without j id xs ∙ (ap (λ b. cond b None (find_exchange id xs)) n ∙ f))
 
-    by_id : (b : Bool) → eqb j l ≡ b → cond b (stage_after_leader table (next_leader table j xs) x) (Waiting l) ≡ stage_of_waiter (cond (b && true) (leader_after_abandon table xs id l) (Some l))
-    by_id true t = of_its_leader table (next_leader table j xs) x ∙ sym (ap stage_of_waiter (followed t))
+    by_id : (b : Bool) → eqb j l ≡ b → cond b (stage_after_leader table (next_leader table j xs) x) (Waiting l) ≡ stage_with_leader_if_any (cond (b && true) (leader_after_abandon table xs id l) (Some l))
+    by_id true t = of_its_leader table (next_leader table j xs) x ∙ sym (ap stage_with_leader_if_any (followed t))
     by_id false t = refl
 
 -- ---- until when it waits
@@ -155,15 +155,15 @@ overdue_gives table es xs next (Overdue id) h = refl
 record StandsBy (id : ℕ) (leads : Option ℕ) (items : List Item) (y : Option Exchange) : Type 0 where
   x : Exchange
   y_is : y ≡ Some x
-  stage : x.stage ≡ stage_of_waiter leads
+  stage : x.stage ≡ stage_with_leader_if_any leads
   unwoken : request_was_woken id items ≡ false
 
 -- a step of another id
 module _ (table : Table) (es : List Stored) (xs : List Exchange) (next : Option ℕ) (id : ℕ) where
   stands_elsewhere : (i : Item) (items : List Item) (leads : Option ℕ) → ItemIsAccepted table es xs next i → eqb (exchange_id_of_event i.event) id ≡ false →
-      Move id (find_exchange (exchange_id_of_event i.event) xs) i.event i.outcome (find_exchange id xs) (find_exchange id (open_exchanges_after table es xs i.event i.outcome)) →
+      Move id (find_exchange (exchange_id_of_event i.event) xs) i.event i.outcome (find_exchange id xs) (find_exchange id (open_exchanges_after_event table es xs i.event i.outcome)) →
       StandsBy id leads items (find_exchange id xs) →
-      StandsBy id (option_and_then (λ l. leader_after_item table xs id l i) leads) (i ∷ items) (find_exchange id (open_exchanges_after table es xs i.event i.outcome))
+      StandsBy id (option_and_then (λ l. leader_of_waiter_after_item table xs id l i) leads) (i ∷ items) (find_exchange id (open_exchanges_after_event table es xs i.event i.outcome))
   stands_elsewhere i items leads accepted n move s = by_event i.event refl
     where
       unwoken : request_was_woken id (i ∷ items) ≡ false
@@ -175,8 +175,8 @@ module _ (table : Table) (es : List Stored) (xs : List Exchange) (next : Option 
       by_its_id : exchange_id_of_event i.event ≡ id → ⊥
       by_its_id e = its_own (eq-eqb (exchange_id_of_event i.event) id e)
 
-      by_move : is_abandon_event i.event ≡ false → Move id (find_exchange (exchange_id_of_event i.event) xs) i.event i.outcome (find_exchange id xs) (find_exchange id (open_exchanges_after table es xs i.event i.outcome)) →
-          StandsBy id (option_and_then (λ l. leader_after_item table xs id l i) leads) (i ∷ items) (find_exchange id (open_exchanges_after table es xs i.event i.outcome))
+      by_move : is_abandon_event i.event ≡ false → Move id (find_exchange (exchange_id_of_event i.event) xs) i.event i.outcome (find_exchange id xs) (find_exchange id (open_exchanges_after_event table es xs i.event i.outcome)) →
+          StandsBy id (option_and_then (λ l. leader_of_waiter_after_item table xs id l i) leads) (i ∷ items) (find_exchange id (open_exchanges_after_event table es xs i.event i.outcome))
       by_move k (apart m h) =
           let c = stage_changed (key_taken_by_step (asked_of (find_exchange (exchange_id_of_event i.event) xs)) i.event i.outcome) (ended_by i.event i.outcome) s.x (find_exchange id xs) s.y_is in
           record { x = c.0; y_is = h ∙ c.1; stage = c.2 ∙ (ap (stage_by (ended_by i.event i.outcome)) s.stage ∙ stage_more table xs id i leads n k); unwoken = unwoken }
@@ -189,7 +189,7 @@ module _ (table : Table) (es : List Stored) (xs : List Exchange) (next : Option 
       by_move k (turns z j m e o x_is r f h) = absurd (false≢true (sym k ∙ ap is_abandon_event e))
       by_move k (lapses z e x_is r f h) = absurd (by_its_id (ap exchange_id_of_event e))
 
-      by_event : (event : Event) → i.event ≡ event → StandsBy id (option_and_then (λ l. leader_after_item table xs id l i) leads) (i ∷ items) (find_exchange id (open_exchanges_after table es xs i.event i.outcome))
+      by_event : (event : Event) → i.event ≡ event → StandsBy id (option_and_then (λ l. leader_of_waiter_after_item table xs id l i) leads) (i ∷ items) (find_exchange id (open_exchanges_after_event table es xs i.event i.outcome))
       by_event (Arrive now j asked) e = by_move (ap is_abandon_event e) move
       by_event (Answer now j r) e = by_move (ap is_abandon_event e) move
       by_event (Fail now j kind) e = by_move (ap is_abandon_event e) move
@@ -198,30 +198,30 @@ module _ (table : Table) (es : List Stored) (xs : List Exchange) (next : Option 
       by_event (Abandon j) e =
           let away : eqb j id ≡ false = sym (ap (λ (v : Event). eqb (exchange_id_of_event v) id) e) ∙ n in
           let ended : i.outcome ≡ Ended = accepted.outcome_is ∙ ap (outcome_of_event table es xs next) e in
-          let follower = after_abandon table (next_leader table j xs) j s.x in
+          let follower = waiter_after_abandon table (next_leader table j xs) j s.x in
           let is : record { event = Abandon j; outcome = i.outcome } ≡ i = ap (λ (v : Event). record { event = v; outcome = i.outcome }) (sym e) in
           record {
             x = follower;
-            y_is = ap (λ (v : Event). find_exchange id (open_exchanges_after table es xs v i.outcome)) e
-                ∙ (find-abandoned table j id xs ∙ (ap (λ b. cond b None (option_map (after_abandon table (next_leader table j xs) j) (find_exchange id xs))) away
-                ∙ ap (option_map (after_abandon table (next_leader table j xs) j)) s.y_is));
+            y_is = ap (λ (v : Event). find_exchange id (open_exchanges_after_event table es xs v i.outcome)) e
+                ∙ (find-abandoned table j id xs ∙ (ap (λ b. cond b None (option_map (waiter_after_abandon table (next_leader table j xs) j) (find_exchange id xs))) away
+                ∙ ap (option_map (waiter_after_abandon table (next_leader table j xs) j)) s.y_is));
             stage = led_on-stage table (next_leader table j xs) j s.x
                 ∙ (stage_abandoned table xs id j i.outcome s.x leads away ended s.y_is s.stage
-                ∙ ap (λ (v : Item). stage_of_waiter (option_and_then (λ l. leader_after_item table xs id l v) leads)) is);
+                ∙ ap (λ (v : Item). stage_with_leader_if_any (option_and_then (λ l. leader_of_waiter_after_item table xs id l v) leads)) is);
             unwoken = unwoken;
           }
 
 -- its time to wait is over
 stands_past : (table : Table) (xs : List Exchange) (id : ℕ) (leads : Option ℕ) (i : Item) (items : List Item) (z : Exchange) (y : Option Exchange) → i.event ≡ Overdue id → y ≡ Some (exchange_released_by_timeout z) → request_was_woken id items ≡ false →
-    StandsBy id (option_and_then (λ l. leader_after_item table xs id l i) leads) (i ∷ items) y
+    StandsBy id (option_and_then (λ l. leader_of_waiter_after_item table xs id l i) leads) (i ∷ items) y
 stands_past table xs id leads i items z y e h unwoken = record {
   x = exchange_released_by_timeout z;
   y_is = h;
-  stage = ap stage_of_waiter (sym (nobody leads));
+  stage = ap stage_with_leader_if_any (sym (nobody leads));
   unwoken = ap (λ (v : Event). cond (eqb (exchange_id_of_event v) id && is_wake_event v) true (request_was_woken id items)) e ∙ (ap (λ b. cond b true (request_was_woken id items)) (and_none (eqb id id)) ∙ unwoken);
 }
   where
-    nobody : (leads : Option ℕ) → option_and_then (λ l. leader_after_item table xs id l i) leads ≡ None
+    nobody : (leads : Option ℕ) → option_and_then (λ l. leader_of_waiter_after_item table xs id l i) leads ≡ None
     nobody None = refl
     nobody (Some l) =
         ap (λ (v : Event). cond (eqb (exchange_id_of_event v) id && is_overdue_event v) None (cond (eqb (exchange_id_of_event v) l && (not (is_arrival_event v) && outcome_ends_exchange i.outcome)) (leader_after_end table xs id l v) (Some l))) e
@@ -245,8 +245,8 @@ module _ (table : Table) (start : StoreAtStart) (first l : ℕ) (before : List I
   leads items = leader_of_waiter table start id l items (arrival ∷ before)
 
   -- by the open exchanges of the core
-  leads_more : (i : Item) (items : List Item) → IsGood begun (items ++ arrival ∷ before) → option_and_then (λ m. leader_after_item table (core items).exchanges id m i) (leads items) ≡ leads (i ∷ items)
-  leads_more i items g = ap (λ (xs : List Exchange). option_and_then (λ m. leader_after_item table xs id m i) (leads items)) (exchanges_are_open table start first (items ++ arrival ∷ before) g)
+  leads_more : (i : Item) (items : List Item) → TraceIsGood begun (items ++ arrival ∷ before) → option_and_then (λ m. leader_of_waiter_after_item table (core items).exchanges id m i) (leads items) ≡ leads (i ∷ items)
+  leads_more i items g = ap (λ (xs : List Exchange). option_and_then (λ m. leader_of_waiter_after_item table xs id m i) (leads items)) (exchanges_are_open table start first (items ++ arrival ∷ before) g)
 
   -- it waits, went forward, or is over
   data Fate (items : List Item) (y : Option Exchange) : Type 0 where
@@ -254,7 +254,7 @@ module _ (table : Table) (start : StoreAtStart) (first l : ℕ) (before : List I
     out : (x : Exchange) → y ≡ Some x → x.stage ≡ Forwarded → Fate items y
     over : y ≡ None → Fate items y
 
-  at_first : IsGood begun (arrival ∷ before) → arrival.outcome ≡ Waits l → StandsBy id (Some l) [] (exchange [])
+  at_first : TraceIsGood begun (arrival ∷ before) → arrival.outcome ≡ Waits l → StandsBy id (Some l) [] (exchange [])
   at_first g w = by_move (exchange []) (move_of table (state_after_trace begun before) arrival id (same_table begun before) g.0)
     where
       here : eqb (exchange_id_of_event arrival.event) (exchange_id_of_event arrival.event) ≡ true
@@ -271,11 +271,11 @@ module _ (table : Table) (start : StoreAtStart) (first l : ℕ) (before : List I
       by_move y (opens at es now asked line e x_is f h) = absurd (no_forward f)
       by_move y (queues at es now asked line m e x_is f k h) =
           let same : m ≡ l = same_wait m l (sym f ∙ w) in
-          record { x = waiting_exchange at es now id asked line m; y_is = h; stage = ap (λ n. Waiting n) same; unwoken = refl }
+          record { x = exchange_begun_waiting at es now id asked line m; y_is = h; stage = ap (λ n. Waiting n) same; unwoken = refl }
         where
           same_wait : (a b : ℕ) → Waits a ≡ Waits b → a ≡ b
           same_wait a b q = cc
-      by_move y (passes t e x_is f h) = absurd (false≢true (sym f ∙ ap opens_an_exchange w))
+      by_move y (passes t e x_is f h) = absurd (false≢true (sym f ∙ ap outcome_opens_exchange w))
       by_move y (again z now t e x_is c f h j s) = absurd (no_forward f)
       by_move y (wakes at es z now e x_is s f h) = absurd (no_forward f)
       by_move y (closes z t e x_is f h) = absurd (no_end f)
@@ -283,20 +283,20 @@ module _ (table : Table) (start : StoreAtStart) (first l : ℕ) (before : List I
       by_move y (lapses z e x_is s f h) = absurd (false≢true (sym (ap is_wait f) ∙ ap is_wait w))
 
   -- a step of another id
-  elsewhere : (i : Item) (items : List Item) → IsGood begun (i ∷ (items ++ arrival ∷ before)) → eqb (exchange_id_of_event i.event) id ≡ false → StandsBy id (leads items) items (exchange items) → StandsBy id (leads (i ∷ items)) (i ∷ items) (exchange (i ∷ items))
+  elsewhere : (i : Item) (items : List Item) → TraceIsGood begun (i ∷ (items ++ arrival ∷ before)) → eqb (exchange_id_of_event i.event) id ≡ false → StandsBy id (leads items) items (exchange items) → StandsBy id (leads (i ∷ items)) (i ∷ items) (exchange (i ∷ items))
   elsewhere i items g n s =
       let c = core items in
       subst (λ (o : Option ℕ). StandsBy id o (i ∷ items) (exchange (i ∷ items))) (leads_more i items g.1)
-      (subst (λ (t : Table). StandsBy id (option_and_then (λ m. leader_after_item t c.exchanges id m i) (leads items)) (i ∷ items) (exchange (i ∷ items))) (same_table begun (items ++ arrival ∷ before))
+      (subst (λ (t : Table). StandsBy id (option_and_then (λ m. leader_of_waiter_after_item t c.exchanges id m i) (leads items)) (i ∷ items) (exchange (i ∷ items))) (same_table begun (items ++ arrival ∷ before))
       (stands_elsewhere c.table c.entries c.exchanges c.next id i items (leads items)
       (subst (λ (t : Table). ItemIsAccepted t c.entries c.exchanges c.next i) (sym (same_table begun (items ++ arrival ∷ before))) g.0) n
       (move_of table c i id (same_table begun (items ++ arrival ∷ before)) g.0) s))
 
-  past_its_time : (i : Item) (items : List Item) (z : Exchange) (y : Option Exchange) → IsGood begun (items ++ arrival ∷ before) → i.event ≡ Overdue id → y ≡ Some (exchange_released_by_timeout z) → request_was_woken id items ≡ false → StandsBy id (leads (i ∷ items)) (i ∷ items) y
+  past_its_time : (i : Item) (items : List Item) (z : Exchange) (y : Option Exchange) → TraceIsGood begun (items ++ arrival ∷ before) → i.event ≡ Overdue id → y ≡ Some (exchange_released_by_timeout z) → request_was_woken id items ≡ false → StandsBy id (leads (i ∷ items)) (i ∷ items) y
   past_its_time i items z y g e h u =
       subst (λ (o : Option ℕ). StandsBy id o (i ∷ items) y) (leads_more i items g) (stands_past table (core items).exchanges id (leads items) i items z y e h u)
 
-  fate_more : (i : Item) (items : List Item) (x y : Option Exchange) (w : Option Exchange) → (eqb (exchange_id_of_event i.event) id && is_arrival_event i.event) ≡ false → IsGood begun (items ++ arrival ∷ before) →
+  fate_more : (i : Item) (items : List Item) (x y : Option Exchange) (w : Option Exchange) → (eqb (exchange_id_of_event i.event) id && is_arrival_event i.event) ≡ false → TraceIsGood begun (items ++ arrival ∷ before) →
       (eqb (exchange_id_of_event i.event) id ≡ false → StandsBy id (leads items) items x → StandsBy id (leads (i ∷ items)) (i ∷ items) y) → Move id w i.event i.outcome x y → Fate items x → Fate (i ∷ items) y
   fate_more i items x y w a g still (apart n h) (stands_by s) = stands_by (still n s)
   fate_more i items x y w a g still (apart n h) (out z x_is s) =
@@ -338,13 +338,13 @@ module _ (table : Table) (start : StoreAtStart) (first l : ℕ) (before : List I
       let no : None ≡ Some z = sym none ∙ x_is in
       absurd (cc)
 
-  fate : (items : List Item) → IsGood begun (items ++ arrival ∷ before) → arrival.outcome ≡ Waits l → NoRequestArrives id items → Fate items (exchange items)
+  fate : (items : List Item) → TraceIsGood begun (items ++ arrival ∷ before) → arrival.outcome ≡ Waits l → NoRequestOfIdArrives id items → Fate items (exchange items)
   fate [] g w n = stands_by (at_first g w)
   fate (i ∷ items) g w n =
       fate_more i items (exchange items) (exchange (i ∷ items)) _ n.0 g.1 (elsewhere i items g) (move_of table (core items) i id (same_table begun (items ++ arrival ∷ before)) g.0) (fate items g.1 w n.1)
 
   -- while nothing but the end of its time happens to it
-  applies : (items : List Item) → IsGood begun (items ++ arrival ∷ before) → arrival.outcome ≡ Waits l → NothingButItsTimeoutHappened id items → StandsBy id (leads items) items (exchange items)
+  applies : (items : List Item) → TraceIsGood begun (items ++ arrival ∷ before) → arrival.outcome ≡ Waits l → NothingButItsTimeoutHappened id items → StandsBy id (leads items) items (exchange items)
   applies [] g w n = at_first g w
   applies (i ∷ items) g w n =
       by_move (applies items g.1 w n.1) (exchange (i ∷ items)) (elsewhere i items g) (move_of table (core items) i id (same_table begun (items ++ arrival ∷ before)) g.0)
@@ -384,7 +384,7 @@ waits_until_its_leader_ends table start first l items before arrival g w n =
 
 -- ---- the wake
 
-waits_for_none : (leads : Option ℕ) → is_released (stage_of_waiter leads) ≡ true → leads ≡ None
+waits_for_none : (leads : Option ℕ) → is_released (stage_with_leader_if_any leads) ≡ true → leads ≡ None
 waits_for_none None h = refl
 waits_for_none (Some l) h = absurd (false≢true h)
 
@@ -404,7 +404,7 @@ woken_once_behind_its_leader table start first now l items before wake arrival g
         (leader_of_waiter table start (exchange_id_of_event arrival.event) l items (arrival ∷ before) ≡ None) × (request_was_woken (exchange_id_of_event arrival.event) items ≡ false)
     by_fate r (stands_by s) =
         let leads = leader_of_waiter table start (exchange_id_of_event arrival.event) l items (arrival ∷ before) in
-        let same : r.x.stage ≡ stage_of_waiter leads = same_stage _ r.x s.x r.is_open s.y_is ∙ s.stage in
+        let same : r.x.stage ≡ stage_with_leader_if_any leads = same_stage _ r.x s.x r.is_open s.y_is ∙ s.stage in
         (waits_for_none leads (ap is_released (sym same) ∙ r.stage), s.unwoken)
     by_fate r (out x y_is s) = absurd (false≢true (ap is_released (sym s ∙ sym (same_stage _ r.x x r.is_open y_is)) ∙ r.stage))
     by_fate r (over y_is) =

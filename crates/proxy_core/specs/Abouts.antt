@@ -1,9 +1,10 @@
 -- What each reply is, as data: its status, what it tells of itself, how long its content is, and the line whose origin
 -- was asked for it.
 --
--- about_stored: a stored response that is sent     about_passed_answer: an answer of the origin that is passed on
--- about_refusal_reply: the proxy's own
--- about_by_outcome: what is told of an outcome     ToldStandsInTheBytes: the bytes of each reply say the same
+-- report_of_stored_reply: a stored response that is sent     report_of_passed_answer: an answer of the origin that is
+-- passed on
+-- report_of_refusal_reply: the proxy's own
+-- report_by_outcome: what is told of an outcome     ToldStandsInTheBytes: the bytes of each reply say the same
 use Rattle.std.specs.Prelude.{◌≡◌, ℕ, ◌+◌, List, [], ◌∷◌, ◌++◌, length, slice_range, codes, decimal, Bool, Option}
 use Rattle.std.specs.Prelude.{Some, None, cond}
 use Rattle.hx_fields.specs.Line.{Field}
@@ -13,7 +14,7 @@ use Rattle.hx_hop.specs.Answering.{answered_of}
 use Rattle.hx_hop.specs.declared.request_view.Asked.{Asked}
 use Rattle.hx_policy.specs.declared.words.Policy.{Policy}
 use Rattle.hx_store.specs.Stored.{Stored}
-use Rattle.hx_status.specs.Abouts.{about_purge, about_refusal, reason_text}
+use Rattle.hx_status.specs.Abouts.{purge_status_and_reason, refusal_status_and_reason, reply_reason_text}
 use Rattle.hx_status.specs.Member.{member_text}
 use Rattle.hx_status.specs.Refusals.{refusal_text}
 use Rattle.hx_status.specs.declared.about.StatusAndReason.{StatusAndReason}
@@ -29,21 +30,23 @@ use Rattle.hx_validate.specs.declared.ranges.RangeAnswer.TheVariants.{Whole, Par
 use Rattle.proxy_core.specs.declared.open.exchange.Exchange.{Exchange}
 use Rattle.proxy_core.specs.declared.outcome.Outcome.{Outcome}
 use Rattle.proxy_core.specs.declared.outcome.Outcome.TheVariants.{Reply, Forward, Waits, Ended, WaitsNoMore}
-use Rattle.proxy_core.specs.declared.replies.stored_reply.CacheStatusInfo.{CacheStatusInfo}
+use Rattle.proxy_core.specs.declared.replies.stored_reply.StoredCacheStatusInfo.{StoredCacheStatusInfo}
 use Rattle.proxy_core.specs.Replies.{cache_status_of_sent, cache_status_of_passed_answer}
 use Rattle.proxy_core.specs.Replies.{cache_status_in_place_of_answer, content_unless_head, is_head}
 use Rattle.proxy_core.specs.Replies.{client_wants_304_for_answer, fields_of_answer_416}
-use Rattle.proxy_core.specs.Replies.{fields_of_partial_answer, stored_response_as_sent}
-use Rattle.proxy_core.specs.Replies.{passed_answer_text, purge_reply_text, range_of_answer, refusal_reply_text, line}
+use Rattle.proxy_core.specs.Replies.{fields_of_partial_answer, stored_response_cut_to_range}
+use Rattle.proxy_core.specs.Replies.{passed_answer_text, purge_reply_text, part_of_answer_to_send, refusal_reply_text}
+use Rattle.proxy_core.specs.Replies.{line}
 use Rattle.proxy_core.specs.Replies.{stored_reply_text}
 
 -- the proxy's own reply; HEAD gets no content (RFC 9110, section 9.3.2)
-abbrev pub about_refusal_reply : Cause → Bool → StatusAndReason
-about_refusal_reply cause head = about_refusal cause (length (content_unless_head head (refusal_text cause)))
+abbrev pub report_of_refusal_reply : Cause → Bool → StatusAndReason
+report_of_refusal_reply cause head =
+    refusal_status_and_reason cause (length (content_unless_head head (refusal_text cause)))
 
 -- a stored response that is sent under a status, with this content
-abbrev pub about_stored_response_sent : ℕ → List ℕ → Stored → ℕ → CacheStatusInfo → StatusAndReason
-about_stored_response_sent status content e now info = record {
+abbrev pub report_of_stored_response_sent : ℕ → List ℕ → Stored → ℕ → StoredCacheStatusInfo → StatusAndReason
+report_of_stored_response_sent status content e now info = record {
   status = status;
   told = Handled (cache_status_of_sent status e now info);
   content_length = length content;
@@ -51,15 +54,15 @@ about_stored_response_sent status content e now info = record {
 }
 
 -- as a 304 to who has it already, or in the form that the request asks for
-abbrev pub about_stored : Stored → ℕ → CacheStatusInfo → Asked → StatusAndReason
-about_stored e now info asked =
-    cond (stored_gets_304 asked e) (about_stored_response_sent 304 [] e now info)
-    (about_stored_response_sent (stored_response_as_sent info.policy asked e).status
-    (content_unless_head (is_head asked) (stored_response_as_sent info.policy asked e).content) e now info)
+abbrev pub report_of_stored_reply : Stored → ℕ → StoredCacheStatusInfo → Asked → StatusAndReason
+report_of_stored_reply e now info asked =
+    cond (stored_gets_304 asked e) (report_of_stored_response_sent 304 [] e now info)
+    (report_of_stored_response_sent (stored_response_cut_to_range info.policy asked e).status
+    (content_unless_head (is_head asked) (stored_response_cut_to_range info.policy asked e).content) e now info)
 
 -- a response that is sent under a status, with this content, where the origin of the exchange's line answered
-abbrev pub about_answer : Exchange → ℕ → List ℕ → Status → StatusAndReason
-about_answer x status content shown = record {
+abbrev pub report_of_answer_sent : Exchange → ℕ → List ℕ → Status → StatusAndReason
+report_of_answer_sent x status content shown = record {
   status = status;
   told = Handled shown;
   content_length = length content;
@@ -67,44 +70,45 @@ about_answer x status content shown = record {
 }
 
 -- the answer, whole
-abbrev pub about_answer_passed_whole : Policy → Exchange → Response → ℕ → Bool → Option StoreRule → StatusAndReason
-about_answer_passed_whole policy x r now stored rule =
-    about_answer x r.status (content_unless_head (is_head x.asked) r.content)
+abbrev pub report_of_answer_passed_whole : Policy → Exchange → Response → ℕ → Bool → Option StoreRule → StatusAndReason
+report_of_answer_passed_whole policy x r now stored rule =
+    report_of_answer_sent x r.status (content_unless_head (is_head x.asked) r.content)
     (cache_status_of_passed_answer policy x r.status (answered_of r now).fields now stored rule)
 
 -- what is sent in its place, under a status of its own, with this content
-abbrev pub about_in_place_of_answer : Policy → Exchange → Response → ℕ → Bool → Option StoreRule → ℕ → List ℕ
+abbrev pub report_in_place_of_answer : Policy → Exchange → Response → ℕ → Bool → Option StoreRule → ℕ → List ℕ
     → StatusAndReason
-about_in_place_of_answer policy x r now stored rule status content = about_answer x status content
+report_in_place_of_answer policy x r now stored rule status content = report_of_answer_sent x status content
     (cache_status_in_place_of_answer policy x r.status (answered_of r now).fields now stored rule)
 
 -- the part of it that its client asked for
-abbrev pub about_answer_in_range : Policy → Exchange → Response → ℕ → Bool → Option StoreRule → RangeAnswer
+abbrev pub report_of_answer_cut_to_range : Policy → Exchange → Response → ℕ → Bool → Option StoreRule → RangeAnswer
     → StatusAndReason
-about_answer_in_range policy x r now stored rule Whole = about_answer_passed_whole policy x r now stored rule
-about_answer_in_range policy x r now stored rule (Part first last) =
+report_of_answer_cut_to_range policy x r now stored rule Whole = report_of_answer_passed_whole policy x r now stored
+    rule
+report_of_answer_cut_to_range policy x r now stored rule (Part first last) =
     cond (head_leaves_room (fields_of_partial_answer r now first last))
-    (about_in_place_of_answer policy x r now stored rule 206
+    (report_in_place_of_answer policy x r now stored rule 206
     (content_unless_head (is_head x.asked) (slice_range r.content first (last + 1))))
-    (about_answer_passed_whole policy x r now stored rule)
-about_answer_in_range policy x r now stored rule Unsatisfiable =
+    (report_of_answer_passed_whole policy x r now stored rule)
+report_of_answer_cut_to_range policy x r now stored rule Unsatisfiable =
     cond (head_leaves_room (fields_of_answer_416 r now))
-    (about_in_place_of_answer policy x r now stored rule 416 (content_unless_head (is_head x.asked) []))
-    (about_answer_passed_whole policy x r now stored rule)
+    (report_in_place_of_answer policy x r now stored rule 416 (content_unless_head (is_head x.asked) []))
+    (report_of_answer_passed_whole policy x r now stored rule)
 
 -- an answer of the origin that is passed on, as a 304 to who has it already, or the part of it
-abbrev pub about_passed_answer : Policy → Exchange → Response → ℕ → Bool → Option StoreRule → StatusAndReason
-about_passed_answer policy x r now stored rule =
-    cond (client_wants_304_for_answer policy x r now) (about_in_place_of_answer policy x r now stored rule 304 [])
-    (about_answer_in_range policy x r now stored rule (range_of_answer policy x r now))
+abbrev pub report_of_passed_answer : Policy → Exchange → Response → ℕ → Bool → Option StoreRule → StatusAndReason
+report_of_passed_answer policy x r now stored rule =
+    cond (client_wants_304_for_answer policy x r now) (report_in_place_of_answer policy x r now stored rule 304 [])
+    (report_of_answer_cut_to_range policy x r now stored rule (part_of_answer_to_send policy x r now))
 
 -- what is told of an outcome; what is no reply tells nothing
-abbrev pub about_by_outcome : Outcome → Option StatusAndReason
-about_by_outcome (Reply r) = Some r.about
-about_by_outcome (Forward line bytes) = None
-about_by_outcome (Waits leader) = None
-about_by_outcome Ended = None
-about_by_outcome WaitsNoMore = None
+abbrev pub report_by_outcome : Outcome → Option StatusAndReason
+report_by_outcome (Reply r) = Some r.about
+report_by_outcome (Forward line bytes) = None
+report_by_outcome (Waits leader) = None
+report_by_outcome Ended = None
+report_by_outcome WaitsNoMore = None
 
 -- ---- the statement
 
@@ -125,7 +129,7 @@ ReplyBytesShowWhatIsReported name about bytes (Handled status) =
     (line (codes "Cache-Status") (member_text name status))
 ReplyBytesShowWhatIsReported name about bytes (Refused cause) =
     ReplyHasStatusLengthAndLastField bytes about.status about.content_length
-    (line (codes "Refusal") (reason_text (Refused cause)))
+    (line (codes "Refusal") (reply_reason_text (Refused cause)))
 ReplyBytesShowWhatIsReported name about bytes (Purged count) =
     ReplyHasStatusLengthAndLastField bytes about.status about.content_length
     (line (codes "Purged") (decimal count))
@@ -134,21 +138,23 @@ abbrev pub BytesShowReportedStatusAndLine : List ℕ → List ℕ → StatusAndR
 BytesShowReportedStatusAndLine name bytes about = ReplyBytesShowWhatIsReported name about bytes about.told
 
 abbrev pub StoredReplyShowsStatusAndCacheStatus : Type 0
-StoredReplyShowsStatusAndCacheStatus = (name : List ℕ) (e : Stored) (now : ℕ) (info : CacheStatusInfo) (asked : Asked)
-    → BytesShowReportedStatusAndLine name (stored_reply_text name e now info asked) (about_stored e now info asked)
+StoredReplyShowsStatusAndCacheStatus = (name : List ℕ) (e : Stored) (now : ℕ) (info : StoredCacheStatusInfo)
+    (asked : Asked)
+    → BytesShowReportedStatusAndLine name (stored_reply_text name e now info asked)
+    (report_of_stored_reply e now info asked)
 
 abbrev pub PassedAnswerShowsStatusAndCacheStatus : Type 0
 PassedAnswerShowsStatusAndCacheStatus =
     (policy : Policy) (name : List ℕ) (x : Exchange) (r : Response) (now : ℕ) (stored : Bool)
     (rule : Option StoreRule)
     → BytesShowReportedStatusAndLine name (passed_answer_text policy name x r now stored rule)
-    (about_passed_answer policy x r now stored rule)
+    (report_of_passed_answer policy x r now stored rule)
 
 abbrev pub RefusalShowsStatusAndCause : Type 0
 RefusalShowsStatusAndCause = (name date : List ℕ) (cause : Cause) (close head : Bool)
     → BytesShowReportedStatusAndLine name (refusal_reply_text date cause close head)
-    (about_refusal_reply cause head)
+    (report_of_refusal_reply cause head)
 
 abbrev pub PurgeReplyShowsStatusAndCount : Type 0
 PurgeReplyShowsStatusAndCount = (name date : List ℕ) (count : ℕ) (close : Bool)
-    → BytesShowReportedStatusAndLine name (purge_reply_text date count close) (about_purge count)
+    → BytesShowReportedStatusAndLine name (purge_reply_text date count close) (purge_status_and_reason count)

@@ -48,12 +48,13 @@ abbrev pub WaitingArrivalsPassTest : ℕ → (ℕ → Bool) → List (ℕ × Exc
 WaitingArrivalsPassTest id test es = SelectedArrivalsPassTest (λ x. waits_for id x.stage) test es
 
 -- a change of each exchange, which keeps its number
-abbrev pub map_exchanges : (Exchange → Exchange) → List (ℕ × Exchange) → List (ℕ × Exchange)
-map_exchanges f es = map (λ e. (e.0, f e.1)) es
+abbrev pub exchanges_each_changed : (Exchange → Exchange) → List (ℕ × Exchange) → List (ℕ × Exchange)
+exchanges_each_changed f es = map (λ e. (e.0, f e.1)) es
 
 -- the same change of those alone whose numbers pass
-abbrev pub map_exchanges_that_pass : (ℕ → Bool) → (Exchange → Exchange) → List (ℕ × Exchange) → List (ℕ × Exchange)
-map_exchanges_that_pass test f es = map (λ e. (e.0, cond (test e.0) (f e.1) e.1)) es
+abbrev pub map_exchanges_where_number_passes : (ℕ → Bool) → (Exchange → Exchange) → List (ℕ × Exchange)
+    → List (ℕ × Exchange)
+map_exchanges_where_number_passes test f es = map (λ e. (e.0, cond (test e.0) (f e.1) e.1)) es
 
 -- the indexes tell the arrival of each id, and who waits for it: nothing else stands there
 pub record IndexesMatchExchanges (es : List (ℕ × Exchange)) (arrivals : ℕ → Option ℕ)

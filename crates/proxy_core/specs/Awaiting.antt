@@ -1,8 +1,8 @@
 -- Which requests wait for the answer to another, and for what: a response that could be sent to them.
 --
 -- no_cache_request_is_heeded: the request has a no-cache that its line heeds
--- ResponseHasExpired, RequestMayAwaitAnother: what a request could be sent of the answer to another
--- awaited_by_request: the same by the first rule against what is held
+-- StaleResponseCanBeFreshAgain, RequestMayAwaitAnother: what a request could be sent of the answer to another
+-- response_awaited_by_request: the same by the first rule against what is held
 -- leader_of_request: the exchange for which a request waits
 -- WaiterIsServedUnlessTheResponseForbids: nobody waits in vain, but by what the answer says
 use Rattle.std.specs.Prelude.{◌≡◌, ◌⊎◌, ℕ, ◌<◌, ◌&&◌, ◌||◌, nat_lt, not, Bool, true, false, List, Option, Some}
@@ -17,7 +17,7 @@ use Rattle.hx_directives.specs.declared.names.Directive.TheVariants.{NoCache}
 use Rattle.hx_age.specs.Age.{age_of, is_fresh_of}
 use Rattle.hx_hop.specs.declared.request_view.Asked.{Asked}
 use Rattle.hx_store.specs.Stored.{Stored}
-use Rattle.hx_store.specs.Shelf.{find_entry}
+use Rattle.hx_store.specs.Shelf.{find_entry_of_serial}
 use Rattle.hx_reuse.specs.Lifetimes.{lifetime_of_stored_response, lifetime_under_policy}
 use Rattle.hx_reuse.specs.Chosen.{chosen_of}
 use Rattle.hx_reuse.specs.Rules.{is_rule_on_chosen, decision_of}
@@ -42,7 +42,7 @@ no_cache_request_is_heeded policy asked = policy.heeds_requests && has_directive
 -- A response had a lifetime under the line (RFC 9111, section 4.2.1), which is over (section 4.2),
 -- be it by a purge, and its origin doesn't want to be asked about it each time (section 5.2.2.4). So the origin's word
 -- on it now makes it fresh again, for all that it could be sent to.
-pub record ResponseHasExpired (policy : Policy) (now : ℕ) (response : Stored) : Type 0 where
+pub record StaleResponseCanBeFreshAgain (policy : Policy) (now : ℕ) (response : Stored) : Type 0 where
   pub had_lifetime : 0 < (lifetime_under_policy policy response.status response.fields).seconds
   pub is_over : is_fresh_of (lifetime_of_stored_response policy response) (age_of response.times now) ≡ false
   pub response_lacks_no_cache : has_directive (occurrences_of response.fields) NoCache ≡ false
@@ -56,7 +56,7 @@ abbrev pub RuleAllowsAwaiting : Policy → List Stored → Asked → ℕ → Reu
 RuleAllowsAwaiting policy held asked now rule Missing = rule ≡ UriMiss
 RuleAllowsAwaiting policy held asked now rule (Expired serial) =
     (policy.waits_for_stale ≡ true) × (is_rule_on_chosen rule ≡ true)
-    × ((response : Stored) × (chosen_of held asked ≡ Some response) × ResponseHasExpired policy now response
+    × ((response : Stored) × (chosen_of held asked ≡ Some response) × StaleResponseCanBeFreshAgain policy now response
     × (response.serial ≡ serial))
 
 -- What a GET could be sent of the answer to another.
@@ -80,28 +80,29 @@ is_staleness_rule StaleMaxAge = true
 is_staleness_rule StaleMinFresh = true
 is_staleness_rule rule = false
 
-abbrev pub awaited_of_chosen : Policy → Option Stored → Option Awaited
-awaited_of_chosen policy None = None
-awaited_of_chosen policy (Some e) =
+abbrev pub awaited_for_chosen_response : Policy → Option Stored → Option Awaited
+awaited_for_chosen_response policy None = None
+awaited_for_chosen_response policy (Some e) =
     cond (nat_lt 0 (lifetime_under_policy policy e.status e.fields).seconds) (Some (Expired e.serial)) None
 
-abbrev pub awaited_by_rule : Policy → Option Stored → Asked → ReuseRule → Option Awaited
-awaited_by_rule policy chosen asked rule =
+abbrev pub response_awaited_by_rule : Policy → Option Stored → Asked → ReuseRule → Option Awaited
+response_awaited_by_rule policy chosen asked rule =
     cond (not (is_get asked) || (policy.waits_for_stale && no_cache_request_is_heeded policy asked)) None
     (cond (is_uri_miss rule) (Some Missing)
-    (cond (policy.waits_for_stale && is_staleness_rule rule) (awaited_of_chosen policy chosen) None))
+    (cond (policy.waits_for_stale && is_staleness_rule rule) (awaited_for_chosen_response policy chosen) None))
 
 -- the chosen response, found by its serial
 abbrev pub chosen_by_serial : List Stored → Asked → Option Stored
-chosen_by_serial held asked = option_and_then (λ e. find_entry e.serial held) (chosen_of held asked)
+chosen_by_serial held asked = option_and_then (λ e. find_entry_of_serial e.serial held) (chosen_of held asked)
 
-abbrev pub awaited_by_request : Policy → List Stored → Asked → ReuseRule → Option Awaited
-awaited_by_request policy held asked rule = awaited_by_rule policy (chosen_by_serial held asked) asked rule
+abbrev pub response_awaited_by_request : Policy → List Stored → Asked → ReuseRule → Option Awaited
+response_awaited_by_request policy held asked rule = response_awaited_by_rule policy
+    (chosen_by_serial held asked) asked rule
 
 -- the first of the open exchanges to arrive whose answer the request could be sent
 abbrev pub leader_of_request : Policy → List Stored → List Exchange → Asked → ReuseRule → Option ℕ
 leader_of_request policy held xs asked rule =
-    leader_id_if_awaited policy asked xs (awaited_by_request policy held asked rule)
+    leader_id_if_awaited policy asked xs (response_awaited_by_request policy held asked rule)
 
 -- ---- nobody waits in vain
 

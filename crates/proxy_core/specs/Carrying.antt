@@ -22,13 +22,14 @@ use Rattle.proxy_core.specs.declared.outcome.Outcome.{Outcome}
 use Rattle.proxy_core.specs.declared.outcome.Outcome.TheVariants.{Forward, Waits}
 use Rattle.proxy_core.specs.declared.event.Event.{Event}
 use Rattle.proxy_core.specs.declared.event.Event.TheVariants.{Arrive, Answer, Fail, Wake, Abandon, Overdue}
-use Rattle.proxy_core.specs.Validating.{condition_about_serial}
+use Rattle.proxy_core.specs.Validating.{condition_to_revalidate_serial}
 use Rattle.proxy_core.specs.Leading.{is_waiting}
 use Rattle.proxy_core.specs.LeadingOn.{wait_is_limited}
 use Rattle.proxy_core.specs.Outcomes.{find_exchange, exchange_id_of_event, forward_text}
 use Rattle.proxy_core.specs.Traces.{Item}
 use Rattle.proxy_core.specs.Histories.{held_entries, open_exchanges, IsGoodHistory}
-use Rattle.proxy_core.specs.Promises.{outcome_goes_forward, is_arrival_event, count_of_outcomes, NoRequestArrives}
+use Rattle.proxy_core.specs.Promises.{outcome_goes_forward, is_arrival_event, count_of_outcomes_of_id}
+use Rattle.proxy_core.specs.Promises.{NoRequestOfIdArrives}
 use Rattle.proxy_core.specs.Starts.{StoreAtStart}
 
 -- a request is judged when it arrives, and anew when it is woken
@@ -47,8 +48,8 @@ NoItemJudgesTheRequest id (i ∷ items) = ((exchange_id_of_event i.event == id &
     × NoItemJudgesTheRequest id items
 
 -- at this moment the request of an exchange arrives, or is woken
-abbrev pub EventJudgesExchange : Event → ℕ → Exchange → Type 0
-EventJudgesExchange event now x = (event ≡ Arrive now x.id x.asked) ⊎ (event ≡ Wake now x.id)
+abbrev pub EventArrivesOrWakesExchange : Event → ℕ → Exchange → Type 0
+EventArrivesOrWakesExchange event now x = (event ≡ Arrive now x.id x.asked) ⊎ (event ≡ Wake now x.id)
 
 -- the client's own request goes forward once more, behind an answer
 abbrev pub second_forward_item : Table → Exchange → ℕ → Response → Item
@@ -61,11 +62,11 @@ pub record ExchangeWentForwardOnce (table : Table) (start : StoreAtStart) (x : E
     (now : ℕ)
     (outcome : Outcome) : Type 0 where
   pub stage : x.stage ≡ Forwarded
-  pub no_forward_since : count_of_outcomes outcome_goes_forward x.id since ≡ 0
+  pub no_forward_since : count_of_outcomes_of_id outcome_goes_forward x.id since ≡ 0
   pub request_time : x.request_time ≡ now
   pub against : Option ℕ
   pub names : RuleOnChosenNamesItsSerial (held_entries table start before) x.asked x.rule against
-  pub condition : x.condition ≡ condition_about_serial (held_entries table start before) against
+  pub condition : x.condition ≡ condition_to_revalidate_serial (held_entries table start before) against
   pub outcome_is : outcome ≡ Forward x.line (forward_text table x.line x.asked x.condition)
 
 -- it went forward once more, without conditions: its request time is the moment of that
@@ -76,7 +77,7 @@ pub record ExchangeWentForwardASecondTime (table : Table) (x : Exchange) (since 
   pub now : ℕ
   pub response : Response
   pub since_is : since ≡ later ++ second_forward_item table x now response ∷ between
-  pub no_forward_since : count_of_outcomes outcome_goes_forward x.id later ≡ 0
+  pub no_forward_since : count_of_outcomes_of_id outcome_goes_forward x.id later ≡ 0
   pub request_time : x.request_time ≡ now
   pub condition : x.condition ≡ None
 
@@ -88,10 +89,10 @@ pub record HasWaitedSinceItsArrival (table : Table) (start : StoreAtStart) (x : 
   pub outcome_is : outcome ≡ Waits leader
   pub stage : (x.stage ≡ Waiting leader)
       ⊎ ((x.stage ≡ Released) ⊎ ((is_waiting x.stage ≡ true) × (wait_is_limited table x ≡ true)))
-  pub no_forward_since : count_of_outcomes outcome_goes_forward x.id since ≡ 0
+  pub no_forward_since : count_of_outcomes_of_id outcome_goes_forward x.id since ≡ 0
   pub against : Option ℕ
   pub names : RuleOnChosenNamesItsSerial (held_entries table start before) x.asked x.rule against
-  pub condition : x.condition ≡ condition_about_serial (held_entries table start before) against
+  pub condition : x.condition ≡ condition_to_revalidate_serial (held_entries table start before) against
 
 -- The request of an open exchange was judged, and none of its id since: the line allows it, and its
 -- rule is the least that stood then (RFC 9111, section 4).
@@ -101,7 +102,7 @@ pub record ExchangeWasJudged (table : Table) (start : StoreAtStart) (x : Exchang
   pub item : Item
   pub now : ℕ
   pub past_is : past ≡ since ++ item ∷ before
-  pub judged : EventJudgesExchange item.event now x
+  pub judged : EventArrivesOrWakesExchange item.event now x
   pub not_judged_since : NoItemJudgesTheRequest x.id since
   pub line_allows : verdict_of_asked table x.asked ≡ Allowed x.line
   pub rule_is_least : IsLeastReuseRule (policy_of table.lines x.line)
@@ -118,7 +119,7 @@ pub record RuleWasLeastWhenJudged (table : Table) (start : StoreAtStart) (x : Ex
   pub item : Item
   pub now : ℕ
   pub past_is : past ≡ since ++ item ∷ before
-  pub judged : EventJudgesExchange item.event now x
+  pub judged : EventArrivesOrWakesExchange item.event now x
   pub not_judged_since : NoItemJudgesTheRequest x.id since
   pub least : IsLeastReuseRule (policy_of table.lines x.line) (held_entries table start before) x.asked now x.rule
 
@@ -134,8 +135,8 @@ pub record IdArrivesBeforeOtherId (id other : ℕ) (past : List Item) : Type 0 w
   pub earlier_arrives : is_arrival_event earlier.event ≡ true
   pub later_id : exchange_id_of_event later.event ≡ other
   pub earlier_id : exchange_id_of_event earlier.event ≡ id
-  pub id_arrives_no_more : NoRequestArrives id since × NoRequestArrives id (later ∷ between)
-  pub other_arrives_no_more : NoRequestArrives other since
+  pub id_arrives_no_more : NoRequestOfIdArrives id since × NoRequestOfIdArrives id (later ∷ between)
+  pub other_arrives_no_more : NoRequestOfIdArrives other since
 
 -- of these ids each arrived before those behind it
 abbrev pub IdsAreInOrderOfArrival : List ℕ → List Item → Type 0

@@ -10,10 +10,10 @@ use Rattle.hx_vary.specs.Vary.{nominated_values_of}
 use Rattle.hx_hop.specs.declared.request_view.Asked.{Asked}
 use Rattle.hx_allow.specs.TableLines.{Line, Table}
 use Rattle.hx_allow.specs.declared.line_hosts.LineHost.TheVariants.{Every}
-use Rattle.hx_allow.specs.Matching.{route_over}
+use Rattle.hx_allow.specs.Matching.{route_over_line}
 use Rattle.hx_store.specs.Stored.{Stored}
 use Rattle.hx_reuse.specs.declared.rule.ReuseRule.TheVariants.{UriMiss, NoLifetime, NoMaxStale}
-use Rattle.proxy_core.specs.Leading.{has_no_store}
+use Rattle.proxy_core.specs.Leading.{request_has_no_store}
 use Rattle.proxy_core.specs.declared.open.stage.Stage.{Stage}
 use Rattle.proxy_core.specs.declared.open.stage.Stage.TheVariants.{Forwarded, Waiting}
 use Rattle.proxy_core.specs.declared.open.exchange.Exchange.{Exchange}
@@ -45,8 +45,8 @@ abbrev pub head_request_for_a : Asked
 head_request_for_a = request_for_path (codes "HEAD") (codes "/a") []
 
 -- the second line of the table has no cache, and what is stored has two bytes at most
-abbrev pub line_with_no_cache : Line
-line_with_no_cache = record {
+abbrev pub plain_caching_line : Line
+plain_caching_line = record {
   hosts = Every ∷ [];
   methods = codes "*" ∷ [];
   paths = codes "/" ∷ [];
@@ -67,21 +67,21 @@ table = record {
   max_body = 1000;
   max_stored = 2;
   max_store = None;
-  lines = line_with_no_cache ∷ record line_with_no_cache { policy = plain false } ∷ [];
+  lines = plain_caching_line ∷ record plain_caching_line { policy = plain false } ∷ [];
 }
 
 -- the same with one line, which names a field for Vary
 abbrev pub table_varying_by_scheme : Table
-table_varying_by_scheme = record table { lines = record line_with_no_cache { vary = codes "X-Forwarded-Proto" ∷ [] } ∷ [] }
+table_varying_by_scheme = record table { lines = record plain_caching_line { vary = codes "X-Forwarded-Proto" ∷ [] } ∷ [] }
 
 -- the same, but for the words of its one line
 abbrev pub table_with_policy : Policy → Table
-table_with_policy policy = record table { lines = record line_with_no_cache { policy = policy } ∷ [] }
+table_with_policy policy = record table { lines = record plain_caching_line { policy = policy } ∷ [] }
 
 -- the same with the words of its one line, over which a request waits for five seconds at most
 abbrev pub table_with_wait_timeout_5 : Policy → Table
 table_with_wait_timeout_5 policy = record table {
-  lines = record line_with_no_cache { policy = policy; wait_timeout = Some 5 } ∷ [];
+  lines = record plain_caching_line { policy = policy; wait_timeout = Some 5 } ∷ [];
 }
 
 abbrev pub serves_ranges_policy : Policy
@@ -93,8 +93,8 @@ fills_ranges_policy = record serves_ranges_policy { fills_ranges = true }
 abbrev pub keeps_conditions_policy : Policy
 keeps_conditions_policy = record (plain true) { forwards_conditions = false }
 
-abbrev pub explains_storing_policy : Policy
-explains_storing_policy = record (plain true) { explains_storing = true }
+abbrev pub policy_explaining_storing : Policy
+policy_explaining_storing = record (plain true) { explains_storing = true }
 
 abbrev pub lifetime_60_policy : Policy
 lifetime_60_policy = record (plain true) { lifetime = Some 60 }
@@ -117,43 +117,43 @@ forwarded_on_miss asked =
     record {
       id = 1;
       asked = asked;
-      line = route_over 1;
+      line = route_over_line 1;
       vary = [];
-      removes_cookies = false;
+      removes_set_cookie = false;
       rule = UriMiss;
       named = None;
       request_time = 100;
       condition = None;
       overtaken = false;
-      no_store = has_no_store asked;
+      no_store = request_has_no_store asked;
       stage = Forwarded;
     }
 
 -- the same over a line that names a field for Vary
-abbrev pub over_line_varying_by_scheme : Exchange → Exchange
-over_line_varying_by_scheme x = record x { vary = codes "X-Forwarded-Proto" ∷ [] }
+abbrev pub exchange_varying_by_scheme : Exchange → Exchange
+exchange_varying_by_scheme x = record x { vary = codes "X-Forwarded-Proto" ∷ [] }
 
 -- the same over a line that removes cookies
-abbrev pub over_line_removing_cookies : Exchange → Exchange
-over_line_removing_cookies x = record x { removes_cookies = true }
+abbrev pub exchange_removing_cookies : Exchange → Exchange
+exchange_removing_cookies x = record x { removes_set_cookie = true }
 
 -- a line of a table of version 4 hides tags
 abbrev pub hides_tags_policy : Policy
 hides_tags_policy = record (plain true) { hides_tags = true }
 
 abbrev pub removes_cookies_policy : Policy
-removes_cookies_policy = record (plain true) { removes_cookies = true }
+removes_cookies_policy = record (plain true) { removes_set_cookie = true }
 
 -- a request that a front got in this scheme
 abbrev pub get_a_by_scheme : List ℕ → Asked
 get_a_by_scheme scheme = get_a_with (line (codes "X-Forwarded-Proto") scheme ∷ [])
 
 -- one that went forward since the response of serial 1 was stale, which has no validator
-abbrev pub exchange_forwarded_on_stale_by : Asked → Exchange
-exchange_forwarded_on_stale_by asked = record (forwarded_on_miss asked) { rule = NoMaxStale; named = Some 1 }
+abbrev pub exchange_forwarded_on_stale_for : Asked → Exchange
+exchange_forwarded_on_stale_for asked = record (forwarded_on_miss asked) { rule = NoMaxStale; named = Some 1 }
 
 abbrev pub exchange_forwarded_on_stale : Exchange
-exchange_forwarded_on_stale = exchange_forwarded_on_stale_by (get_a_with [])
+exchange_forwarded_on_stale = exchange_forwarded_on_stale_for (get_a_with [])
 
 -- a line that lets requests wait for that, and a request with Authorization
 abbrev pub wait_for_stale_policy : Policy
@@ -171,7 +171,7 @@ abbrev pub get_a_with_cookie : Asked
 get_a_with_cookie = get_a_with (line (codes "Cookie") (codes "session=alice") ∷ [])
 
 abbrev pub exchange_forwarded_over_line_2 : Exchange
-exchange_forwarded_over_line_2 = record (forwarded_on_miss (get_a_with [])) { line = route_over 2 }
+exchange_forwarded_over_line_2 = record (forwarded_on_miss (get_a_with [])) { line = route_over_line 2 }
 
 -- one that waits for it
 abbrev pub waiting : Exchange
@@ -234,8 +234,8 @@ vary_field value = line (codes "Vary") value
 abbrev pub set_cookie_field : Field
 set_cookie_field = line (codes "Set-Cookie") (codes "a=1")
 
-abbrev pub accept_language : List ℕ → Field
-accept_language value = line (codes "Accept-Language") value
+abbrev pub accept_language_line : List ℕ → Field
+accept_language_line value = line (codes "Accept-Language") value
 
 abbrev pub date_at_101 : Field
 date_at_101 = line (codes "Date") (codes "Thu, 01 Jan 1970 00:01:41 GMT")
@@ -245,8 +245,8 @@ abbrev pub first_answer_fields : List Field
 first_answer_fields = date_at_101 ∷ cache_control (codes "max-age=60") ∷ etag_field (codes "\"v1\"") ∷ []
 
 -- a stored response of these lines, asked for at 100 and received at 101
-abbrev pub stored_with : ℕ → List Field → Stored
-stored_with serial fields = record {
+abbrev pub stored_of_fields : ℕ → List Field → Stored
+stored_of_fields serial fields = record {
   serial = serial;
   key = key_of_path (codes "/a");
   nominated = [];
@@ -257,7 +257,7 @@ stored_with serial fields = record {
 }
 
 abbrev pub stored_from_first_answer : Stored
-stored_from_first_answer = stored_with 1 first_answer_fields
+stored_from_first_answer = stored_of_fields 1 first_answer_fields
 
 -- a response once a purge expired it at a moment, and one that was received in the second in which it was asked for
 abbrev pub purged_at : ℕ → Stored → Stored
@@ -268,29 +268,29 @@ stored_without_response_delay e = record e { times = record e.times { request_ti
 
 -- one of /a with these tags
 abbrev pub stored_with_tags : ℕ → List ℕ → Stored
-stored_with_tags serial tags = stored_with serial (cache_tag tags ∷ first_answer_fields)
+stored_with_tags serial tags = stored_of_fields serial (cache_tag tags ∷ first_answer_fields)
 
 -- four that are held: one of another host, and three of /a, of which one has no tag
-abbrev pub entries_held_with_tags : List Stored
-entries_held_with_tags =
+abbrev pub four_entries_with_and_without_tags : List Stored
+four_entries_with_and_without_tags =
     record (stored_with_tags 4 (codes "news")) { key = record (key_of_path (codes "/c")) { host = codes "g" } }
-    ∷ stored_with_tags 3 (codes "sport, old-news") ∷ stored_with 2 first_answer_fields
+    ∷ stored_with_tags 3 (codes "sport, old-news") ∷ stored_of_fields 2 first_answer_fields
     ∷ stored_with_tags 1 (codes "front,news") ∷ []
 
 -- one that was asked for in this language
 abbrev pub stored_in_language : ℕ → List ℕ → Stored
 stored_in_language serial language =
-    record (stored_with serial first_answer_fields) {
+    record (stored_of_fields serial first_answer_fields) {
       nominated = nominated_values_of (vary_field (codes "Accept-Language")
-          ∷ []) (accept_language language ∷ []);
+          ∷ []) (accept_language_line language ∷ []);
     }
 
 -- one that states no lifetime, with the tag that `exchange_that_revalidates_e` asks about, and what a 304 brings
 abbrev pub stored_without_lifetime : Stored
-stored_without_lifetime = stored_with 1 (etag_field (codes "\"e\"") ∷ [])
+stored_without_lifetime = stored_of_fields 1 (etag_field (codes "\"e\"") ∷ [])
 
-abbrev pub lines_of_304 : List Field
-lines_of_304 = date_at_101 ∷ cache_control (codes "max-age=60") ∷ etag_field (codes "\"e\"") ∷ []
+abbrev pub lines_of_origins_304 : List Field
+lines_of_origins_304 = date_at_101 ∷ cache_control (codes "max-age=60") ∷ etag_field (codes "\"e\"") ∷ []
 
 -- three that are held: two of /a, in German and in English, and one of /b
 abbrev pub three_held_responses : List Stored
@@ -300,7 +300,7 @@ three_held_responses =
 
 -- what was fresh for 10 seconds, has no validator, and is stale at 130
 abbrev pub stale_stored_with_directives : List ℕ → Stored
-stale_stored_with_directives directives = stored_with 1 (cache_control directives ∷ [])
+stale_stored_with_directives directives = stored_of_fields 1 (cache_control directives ∷ [])
 
 abbrev pub held_with_lifetime_10 : List Stored
 held_with_lifetime_10 = stale_stored_with_directives (codes "max-age=10") ∷ []
@@ -316,9 +316,9 @@ abbrev pub get_a_with_no_store : Asked
 get_a_with_no_store = get_a_with (cache_control (codes "no-store") ∷ [])
 
 -- the bytes of a reply
-abbrev pub bytes_of_reply_outcome : Outcome → List ℕ
-bytes_of_reply_outcome (Reply r) = r.bytes
-bytes_of_reply_outcome (Forward line bytes) = bytes
-bytes_of_reply_outcome (Waits leader) = []
-bytes_of_reply_outcome Ended = []
-bytes_of_reply_outcome WaitsNoMore = []
+abbrev pub bytes_of_outcome : Outcome → List ℕ
+bytes_of_outcome (Reply r) = r.bytes
+bytes_of_outcome (Forward line bytes) = bytes
+bytes_of_outcome (Waits leader) = []
+bytes_of_outcome Ended = []
+bytes_of_outcome WaitsNoMore = []

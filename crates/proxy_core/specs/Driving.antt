@@ -7,7 +7,7 @@
 use Rattle.std.specs.Prelude.{◌≡◌, ℕ, List, [], ◌∷◌, Some}
 use Rattle.hx_allow.specs.TableLines.{Table}
 use Rattle.proxy_core.specs.State.{State, StepIsAccepted, bounds_of}
-use Rattle.proxy_core.specs.Starts.{StoreAtStart, StartIsValid}
+use Rattle.proxy_core.specs.Starts.{StoreAtStart, StoreAtStartIsValid}
 use Rattle.proxy_core.specs.Traces.{Item, initial_state}
 use Rattle.proxy_core.specs.Histories.{IsGoodHistory, held_entries, open_exchanges, next_serial}
 use Rattle.proxy_core.specs.Headline.{Headline}
@@ -16,7 +16,8 @@ use Rattle.proxy_core.specs.Headline.{Headline}
 -- first
 abbrev pub CoreHasRunTrace : Table → StoreAtStart → ℕ → List Item → State → Type 0
 CoreHasRunTrace table start first [] core =
-    (core ≡ initial_state table start first) × StartIsValid (bounds_of table start.limit) (Some first) start.entries
+    (core ≡ initial_state table start first)
+    × StoreAtStartIsValid (bounds_of table start.limit) (Some first) start.entries
 CoreHasRunTrace table start first (item ∷ past) core =
     (before : State) × CoreHasRunTrace table start first past before
     × StepIsAccepted before item.event item.outcome core

@@ -1,7 +1,7 @@
 -- What a purge leaves of what is held, in words; and until when what it expired stays so. A trace has its latest item
 -- first.
 --
--- with_lifetime_ended_if: of a response that passes a test the lifetime is ended
+-- response_with_lifetime_ended_if: of a response that passes a test the lifetime is ended
 -- item_makes_response_fresh: an item makes the response of a serial fresh          NoItemMakesResponseFresh: none of
 -- some does
 -- Below them are the statements that the laws of `src/laws/expiring_cases.rt` prove.
@@ -13,7 +13,7 @@ use Rattle.hx_hop.specs.declared.request_view.Asked.{Asked}
 use Rattle.hx_age.specs.Age.{age_of, times_once_purged}
 use Rattle.hx_policy.specs.declared.words.Policy.{Policy}
 use Rattle.hx_reuse.specs.Lifetimes.{lifetime_of_stored_response}
-use Rattle.hx_allow.specs.PurgeModes.{purge_mode_or_remove}
+use Rattle.hx_allow.specs.PurgeModes.{request_purge_mode_or_remove}
 use Rattle.hx_allow.specs.TableLines.{Table}
 use Rattle.hx_allow.specs.declared.purge_modes.PurgeMode.TheVariants.{Remove, Stale}
 use Rattle.hx_store.specs.Stored.{Stored}
@@ -27,18 +27,19 @@ use Rattle.proxy_core.specs.Scopes.{is_purged_by_request}
 use Rattle.proxy_core.specs.State.{serial_stored_by_outcome, serial_used_by_outcome}
 use Rattle.proxy_core.specs.Starts.{StoreAtStart}
 use Rattle.proxy_core.specs.Traces.{Item}
-use Rattle.proxy_core.specs.Histories.{IsGoodHistory, held_entries, held_entry, open_exchanges}
+use Rattle.proxy_core.specs.Histories.{IsGoodHistory, held_entries, entry_held_after, open_exchanges}
 use Rattle.proxy_core.specs.StoredAnswers.{KeyIsNotOvertakenSinceForward}
-use Rattle.proxy_core.specs.Validating.{stored_response_is_answered, freshened_by_304}
+use Rattle.proxy_core.specs.Validating.{stored_response_is_answered_by_304, freshened_by_304}
 
 -- a response, of which the lifetime is ended at a moment if it passes a test
-abbrev pub with_lifetime_ended_if : (Stored → Bool) → ℕ → Stored → Stored
-with_lifetime_ended_if passes now e = cond (passes e) (record e { times = times_once_purged e.times now }) e
+abbrev pub response_with_lifetime_ended_if : (Stored → Bool) → ℕ → Stored → Stored
+response_with_lifetime_ended_if passes now e = cond (passes e) (record e { times = times_once_purged e.times now }) e
 
 -- an event is the answer by which an exchange makes a response fresh: a 304 that answers it, to a request that nothing
 -- overtook since it went forward
 abbrev pub is_freshened_by_answer : Option Exchange → Event → Option Stored → Bool
-is_freshened_by_answer (Some x) (Answer now id r) (Some e) = stored_response_is_answered x r now e && not x.overtaken
+is_freshened_by_answer (Some x) (Answer now id r) (Some e) =
+    stored_response_is_answered_by_304 x r now e && not x.overtaken
 is_freshened_by_answer (Some x) (Answer now id r) None = false
 is_freshened_by_answer None (Answer now id r) response = false
 is_freshened_by_answer x (Arrive now id asked) response = false
@@ -52,7 +53,7 @@ abbrev pub item_makes_response_fresh : Table → StoreAtStart → ℕ → Item �
 item_makes_response_fresh table start s i past =
     option_is_serial (serial_stored_by_outcome i.outcome) s
     || is_freshened_by_answer (find_exchange (exchange_id_of_event i.event) (open_exchanges table start past)) i.event
-    (held_entry table start past s)
+    (entry_held_after table start past s)
 
 -- none of these items, after this past, does
 abbrev pub NoItemMakesResponseFresh : Table → StoreAtStart → ℕ → List Item → List Item → Type 0
@@ -69,16 +70,16 @@ abbrev pub ExpiringPurgeChangesNothingElse : Type 0
 ExpiringPurgeChangesNothingElse =
     (table : Table) (start : StoreAtStart) (first now id : ℕ) (asked : Asked) (item : Item) (past : List Item) →
     IsGoodHistory table start first (item ∷ past) → item.event ≡ Arrive now id asked →
-    request_purges table asked ≡ true → purge_mode_or_remove asked.fields ≡ Stale →
+    request_purges table asked ≡ true → request_purge_mode_or_remove asked.fields ≡ Stale →
     held_entries table start (item ∷ past)
-    ≡ map (with_lifetime_ended_if (is_purged_by_request asked) now) (held_entries table start past)
+    ≡ map (response_with_lifetime_ended_if (is_purged_by_request asked) now) (held_entries table start past)
 
 -- Behind any other purge just that is held no more.
 abbrev pub RemovingPurgeChangesNothingElse : Type 0
 RemovingPurgeChangesNothingElse =
     (table : Table) (start : StoreAtStart) (first now id : ℕ) (asked : Asked) (item : Item) (past : List Item) →
     IsGoodHistory table start first (item ∷ past) → item.event ≡ Arrive now id asked →
-    request_purges table asked ≡ true → purge_mode_or_remove asked.fields ≡ Remove →
+    request_purges table asked ≡ true → request_purge_mode_or_remove asked.fields ≡ Remove →
     held_entries table start (item ∷ past)
     ≡ filter (λ e. not (is_purged_by_request asked e)) (held_entries table start past)
 
@@ -88,9 +89,10 @@ abbrev pub ExpiredResponseIsStaleUntilMadeFresh : Type 0
 ExpiredResponseIsStaleUntilMadeFresh =
     (table : Table) (start : StoreAtStart) (first s purge : ℕ) (response : Stored) (items past : List Item) →
     IsGoodHistory table start first (items ++ past) →
-    held_entry table start past s ≡ Some response → response.times.expired ≡ Some purge →
+    entry_held_after table start past s ≡ Some response → response.times.expired ≡ Some purge →
     NoItemMakesResponseFresh table start s items past →
-    (later : Stored) × (held_entry table start (items ++ past) s ≡ Some later) × (later.times.expired ≡ Some purge)
+    (later : Stored) × (entry_held_after table start (items ++ past) s ≡ Some later)
+    × (later.times.expired ≡ Some purge)
     × ((policy : Policy) (now : ℕ) → purge ≤ now
     → (lifetime_of_stored_response policy later).seconds ≤ age_of later.times now)
 
@@ -102,7 +104,7 @@ OnlyUnovertakenRequestMakesFresh =
     IsGoodHistory table start first (item ∷ past) →
     is_freshened_by_answer
     (find_exchange (exchange_id_of_event item.event) (open_exchanges table start past)) item.event
-    (held_entry table start past s) ≡ true →
+    (entry_held_after table start past s) ≡ true →
     (x : Exchange) × (find_exchange (exchange_id_of_event item.event) (open_exchanges table start past) ≡ Some x)
     × KeyIsNotOvertakenSinceForward past x
 

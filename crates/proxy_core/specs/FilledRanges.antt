@@ -19,7 +19,7 @@ use Rattle.hx_hop.specs.declared.request_view.Asked.{Asked}
 use Rattle.hx_policy.specs.declared.words.Policy.{Policy}
 use Rattle.hx_allow.specs.Matching.{policy_of}
 use Rattle.hx_allow.specs.TableLines.{Table}
-use Rattle.hx_allow.specs.declared.verdicts.RequestRoute.{RequestRoute}
+use Rattle.hx_allow.specs.declared.verdicts.RouteOverLine.{RouteOverLine}
 use Rattle.hx_store.specs.Stored.{Stored}
 use Rattle.hx_reuse.specs.FilledRanges.{fetches_whole_for_range, request_without_range}
 use Rattle.hx_storable.specs.declared.rule.StoreRule.{StoreRule}
@@ -33,7 +33,7 @@ use Rattle.proxy_core.specs.Leading.{is_leader_for_request}
 use Rattle.proxy_core.specs.Outcomes.{forward_text}
 use Rattle.proxy_core.specs.Replies.{client_wants_304_for_answer, fields_in_place_of_answer, fields_of_answer_416}
 use Rattle.proxy_core.specs.Replies.{fields_of_partial_answer, not_modified_answer_text, passed_answer_text}
-use Rattle.proxy_core.specs.Replies.{range_of_answer, whole_answer_text}
+use Rattle.proxy_core.specs.Replies.{part_of_answer_to_send, whole_answer_text}
 use Rattle.proxy_core.specs.Storing.{stored_response_made}
 
 -- ---- what the origin is asked
@@ -41,13 +41,14 @@ use Rattle.proxy_core.specs.Storing.{stored_response_made}
 -- what goes forward for a range is, to the byte, what would go forward for the whole
 abbrev pub FilledRangeIsForwardedAsTheWhole : Type 0
 FilledRangeIsForwardedAsTheWhole =
-    (table : Table) (line : RequestRoute) (asked : Asked) (condition : Option Condition) →
+    (table : Table) (line : RouteOverLine) (asked : Asked) (condition : Option Condition) →
     fetches_whole_for_range (policy_of table.lines line) asked ≡ true
     → forward_text table line asked condition ≡ forward_text table line (request_without_range asked) condition
 
 -- it has neither Range nor If-Range, with the proxy's own conditions and without
 abbrev pub FilledRangeForwardsNoRangeField : Type 0
-FilledRangeForwardsNoRangeField = (table : Table) (line : RequestRoute) (asked : Asked) (condition : Option Condition) →
+FilledRangeForwardsNoRangeField = (table : Table) (line : RouteOverLine) (asked : Asked) (condition : Option Condition)
+    →
     fetches_whole_for_range (policy_of table.lines line) asked ≡ true →
     (request : Request) × (forward_text table line asked condition ≡ request_text request)
     × (has_field request.fields (codes "Range") ≡ false) × (has_field request.fields (codes "If-Range") ≡ false)
@@ -67,13 +68,13 @@ abbrev pub AnswerIsCutLikeAStoredResponse : Type 0
 AnswerIsCutLikeAStoredResponse = (policy : Policy) (x : Exchange) (r : Response) (now : ℕ) (e : Stored) →
     fetches_whole_for_range policy x.asked ≡ true → e.status ≡ r.status → e.fields ≡ (answered_of r now).fields
     → e.content ≡ r.content → e.times ≡ times_of_message (answered_of r now).fields x.request_time now
-    → range_of_answer policy x r now ≡ range_answer x.asked e
+    → part_of_answer_to_send policy x r now ≡ range_answer x.asked e
 
 -- the part has the bytes from the first to the last of the answer, its lines, and the one that says which part it is
 abbrev pub PartialAnswerHasRangeBytes : Type 0
 PartialAnswerHasRangeBytes = (policy : Policy) (name : List ℕ) (x : Exchange) (r : Response) (now : ℕ) (stored : Bool)
     (rule : Option StoreRule) (first last : ℕ) → client_wants_304_for_answer policy x r now ≡ false
-    → range_of_answer policy x r now ≡ Part first last
+    → part_of_answer_to_send policy x r now ≡ Part first last
     → head_leaves_room (fields_of_partial_answer r now first last) ≡ true
     → passed_answer_text policy name x r now stored rule ≡ response_text 206
     (fields_in_place_of_answer policy name x r.status (answered_of r now).fields now stored rule
@@ -85,7 +86,7 @@ abbrev pub UnsatisfiableRangeOfAnswerGets416 : Type 0
 UnsatisfiableRangeOfAnswerGets416 =
     (policy : Policy) (name : List ℕ) (x : Exchange) (r : Response) (now : ℕ) (stored : Bool)
     (rule : Option StoreRule) → client_wants_304_for_answer policy x r now ≡ false
-    → range_of_answer policy x r now ≡ Unsatisfiable → head_leaves_room (fields_of_answer_416 r now) ≡ true
+    → part_of_answer_to_send policy x r now ≡ Unsatisfiable → head_leaves_room (fields_of_answer_416 r now) ≡ true
     → passed_answer_text policy name x r now stored rule ≡ response_text 416
     (fields_in_place_of_answer policy name x r.status (answered_of r now).fields now stored rule
     (fields_of_answer_416 r now)) (Some 0) x.asked.close []

@@ -8,7 +8,7 @@
 -- closes_by: whether the client's connection closes
 use Rattle.std.specs.Prelude.{◌≡◌, ◌⊎◌, ℕ, ◌<◌, true, List, Option, Some, None}
 use Rattle.hx_policy.specs.declared.words.Policy.{Policy}
-use Rattle.hx_fields.specs.declared.limits.TheConstants.{END_OF_TIME}
+use Rattle.hx_fields.specs.declared.limits.TheConstants.{START_OF_YEAR_10000}
 use Rattle.hx_framing.specs.declared.messages.Response.{Response}
 use Rattle.hx_hop.specs.declared.request_view.Asked.{Asked}
 use Rattle.hx_allow.specs.TableLines.{Table}
@@ -23,19 +23,19 @@ use Rattle.proxy_core.specs.declared.outcome.Outcome.TheVariants.{Reply as Reply
 use Rattle.proxy_core.specs.declared.event.Event.{Event}
 use Rattle.proxy_core.specs.declared.event.Event.TheVariants.{Arrive, Answer, Fail, Wake, Abandon, Overdue}
 use Rattle.proxy_core.specs.Leading.{is_forwarded, is_waiting, is_released}
-use Rattle.proxy_core.specs.Validating.{condition_about_serial, is_304_to_own_conditions}
+use Rattle.proxy_core.specs.Validating.{condition_to_revalidate_serial, is_304_to_own_conditions}
 use Rattle.proxy_core.specs.Outcomes.{forward_text}
-use Rattle.proxy_core.specs.Sending.{StoredResponseMayBeSentAt, RequestGoesForward}
+use Rattle.proxy_core.specs.Sending.{StoredResponseMayBeSentAtEvent, RequestGoesForward}
 
 -- A request arrives under an id that no open exchange has; an answer or a failure is of one that is
 -- at the origin; only who waits can be overdue; who waited is woken behind the end of the exchange
 -- that it waited for, or behind the end of its time to wait; any open one may be abandoned. Moments
 -- lie before the year 10000.
 abbrev pub EventSuitsExchange : Option Exchange → Event → Type 0
-EventSuitsExchange None (Arrive now id asked) = now < END_OF_TIME
-EventSuitsExchange (Some x) (Answer now id r) = (now < END_OF_TIME) × (is_forwarded x.stage ≡ true)
-EventSuitsExchange (Some x) (Fail now id kind) = (now < END_OF_TIME) × (is_forwarded x.stage ≡ true)
-EventSuitsExchange (Some x) (Wake now id) = (now < END_OF_TIME) × (is_released x.stage ≡ true)
+EventSuitsExchange None (Arrive now id asked) = now < START_OF_YEAR_10000
+EventSuitsExchange (Some x) (Answer now id r) = (now < START_OF_YEAR_10000) × (is_forwarded x.stage ≡ true)
+EventSuitsExchange (Some x) (Fail now id kind) = (now < START_OF_YEAR_10000) × (is_forwarded x.stage ≡ true)
+EventSuitsExchange (Some x) (Wake now id) = (now < START_OF_YEAR_10000) × (is_released x.stage ≡ true)
 EventSuitsExchange (Some x) (Abandon id) = Unit {0}
 EventSuitsExchange (Some x) (Overdue id) = is_waiting x.stage ≡ true
 EventSuitsExchange (Some x) (Arrive now id asked) = ⊥
@@ -49,7 +49,7 @@ EventSuitsExchange None (Overdue id) = ⊥
 abbrev pub NeedsSecondForward : Table → List Stored → Exchange → ℕ → ℕ → Response → Type 0
 NeedsSecondForward table held x now id r =
     (is_304_to_own_conditions x r ≡ true)
-    × ((s : ℕ) → StoredResponseMayBeSentAt table held (Some x) (Answer now id r) s → ⊥)
+    × ((s : ℕ) → StoredResponseMayBeSentAtEvent table held (Some x) (Answer now id r) s → ⊥)
 
 abbrev pub IsClientReply : Outcome → Type 0
 IsClientReply outcome = (reply : Reply) × (outcome ≡ ReplyData reply)
@@ -81,10 +81,10 @@ ExchangeContinuesByEvent table held x (Overdue id) outcome = outcome ≡ WaitsNo
 abbrev pub ConditionIsSentAtEvent : Policy → List Stored → Asked → Event → Option Condition → Type 0
 ConditionIsSentAtEvent policy held asked (Arrive now id other) condition =
     (rule : ReuseRule) × (against : Option ℕ) × IsLeastReuseRule policy held asked now rule
-    × RuleOnChosenNamesItsSerial held asked rule against × (condition ≡ condition_about_serial held against)
+    × RuleOnChosenNamesItsSerial held asked rule against × (condition ≡ condition_to_revalidate_serial held against)
 ConditionIsSentAtEvent policy held asked (Wake now id) condition =
     (rule : ReuseRule) × (against : Option ℕ) × IsLeastReuseRule policy held asked now rule
-    × RuleOnChosenNamesItsSerial held asked rule against × (condition ≡ condition_about_serial held against)
+    × RuleOnChosenNamesItsSerial held asked rule against × (condition ≡ condition_to_revalidate_serial held against)
 ConditionIsSentAtEvent policy held asked (Answer now id r) condition = condition ≡ None
 ConditionIsSentAtEvent policy held asked (Fail now id kind) condition = ⊥
 ConditionIsSentAtEvent policy held asked (Abandon id) condition = ⊥

@@ -4,7 +4,8 @@
 -- stale-if-error allow for that request then, and every other answer names the first rule against
 -- it.
 --
--- RequestReachesCacheOrOriginIffAllowed, RequestGoesForwardWhereAllowed, ClientIsAnsweredAtTheNextStep: the first part
+-- RequestReachesCacheOrOriginIffAllowed, RequestGoesForwardOnlyWhereAllowed, ClientIsAnsweredAtTheNextStep: the first
+-- part
 -- StoredResponseIsSentExactlyWhereItMayBe, SentResponseIsTheStoredOne, AnswerIsStoredExactlyWhereItMayBe,
 -- StoredResponsesAreRemovedExactlyWhereTheyMustBe: the second
 -- AnswerNotFromStoreNamesFirstRule: the third
@@ -19,24 +20,24 @@ use Rattle.hx_allow.specs.TableLines.{Table}
 use Rattle.hx_allow.specs.Matching.{policy_of}
 use Rattle.proxy_core.specs.Allowing.{verdict_of_asked, request_purges}
 use Rattle.hx_allow.specs.declared.verdicts.Verdict.TheVariants.{Allowed}
-use Rattle.hx_allow.specs.declared.verdicts.RequestRoute.{RequestRoute}
+use Rattle.hx_allow.specs.declared.verdicts.RouteOverLine.{RouteOverLine}
 use Rattle.hx_storable.specs.Storable.{StatusIsFinal}
 use Rattle.proxy_core.specs.declared.steps.condition.Condition.{Condition}
 use Rattle.proxy_core.specs.declared.open.exchange.Exchange.{Exchange}
 use Rattle.proxy_core.specs.declared.outcome.Reply.{Reply}
 use Rattle.proxy_core.specs.declared.outcome.Outcome.TheVariants.{Reply as ReplyData, Forward}
 use Rattle.proxy_core.specs.declared.event.Event.TheVariants.{Arrive, Answer}
-use Rattle.proxy_core.specs.Abouts.{about_by_outcome}
-use Rattle.proxy_core.specs.Outcomes.{about_of_event, find_exchange, exchange_id_of_event, forward_text}
+use Rattle.proxy_core.specs.Abouts.{report_by_outcome}
+use Rattle.proxy_core.specs.Outcomes.{report_of_event_reply, find_exchange, exchange_id_of_event, forward_text}
 use Rattle.proxy_core.specs.State.{serial_stored_by_outcome, serial_used_by_outcome, outcome_purges, bounds_of}
-use Rattle.proxy_core.specs.Starts.{StoreAtStart, StartIsValid}
+use Rattle.proxy_core.specs.Starts.{StoreAtStart, StoreAtStartIsValid}
 use Rattle.proxy_core.specs.Traces.{Item, DeniedRequestsLeaveNoTrace}
 use Rattle.proxy_core.specs.Histories.{held_entries, open_exchanges, next_serial, IsGoodHistory}
 use Rattle.proxy_core.specs.Promises.{latest_request_of, TwiceForwardOneReply}
 use Rattle.proxy_core.specs.Promises.{NothingInvalidatedIsSent, NothingInvalidatedSinceTheStartIsSent}
 use Rattle.proxy_core.specs.Sending.{RequestReachesCacheOrOrigin, RequestIsRefusedByTheTable, OutcomeIsOfRequestedPurge}
 use Rattle.proxy_core.specs.Sending.{StoredResponseMayBeSent}
-use Rattle.proxy_core.specs.Sending.{ReplyIsTheStoredResponse}
+use Rattle.proxy_core.specs.Sending.{ReplySendsTheStoredResponse}
 use Rattle.proxy_core.specs.GoingOn.{EventSuitsExchange, ExchangeContinuesByEvent, ConditionIsSentAtEvent}
 use Rattle.proxy_core.specs.StoredAnswers.{AnswerMayBeStored, IsAnswerThatMayBeStored, OutcomeRemovesExactlyWhatItMust}
 use Rattle.proxy_core.specs.StoredAnswers.{OutcomeExpiresExactlyWhatItMust}
@@ -60,18 +61,18 @@ EachEventSuitsExchange table start item past =
 abbrev pub RequestReachesCacheOrOriginIffAllowed : Table → StoreAtStart → Item → List Item → Type 0
 RequestReachesCacheOrOriginIffAllowed table start item past = (now id : ℕ) (asked : Asked) → item.event
     ≡ Arrive now id asked →
-    ((line : RequestRoute) → verdict_of_asked table asked ≡ Allowed line
+    ((line : RouteOverLine) → verdict_of_asked table asked ≡ Allowed line
     → RequestReachesCacheOrOrigin table (held_entries table start past)
     (open_exchanges table start past) now asked line item.outcome)
     × ((request_purges table asked ≡ true
     → OutcomeIsOfRequestedPurge (held_entries table start past) now asked item.outcome)
-    × (((line : RequestRoute) → verdict_of_asked table asked ≢ Allowed line) → request_purges table asked ≡ false
+    × (((line : RouteOverLine) → verdict_of_asked table asked ≢ Allowed line) → request_purges table asked ≡ false
     → RequestIsRefusedByTheTable table now asked item.outcome))
 
 -- Whatever goes forward, at an arrival, a wake or a second time, goes to the origin of the line
 -- that allows its request, and is that request's text, with the proxy's conditions of that moment.
-abbrev pub RequestGoesForwardWhereAllowed : Table → StoreAtStart → Item → List Item → Type 0
-RequestGoesForwardWhereAllowed table start item past = (line : RequestRoute) (bytes : List ℕ) → item.outcome
+abbrev pub RequestGoesForwardOnlyWhereAllowed : Table → StoreAtStart → Item → List Item → Type 0
+RequestGoesForwardOnlyWhereAllowed table start item past = (line : RouteOverLine) (bytes : List ℕ) → item.outcome
     ≡ Forward line bytes →
     (asked : Asked) ×
     (condition : Option Condition) × (latest_request_of (exchange_id_of_event item.event) (item ∷ past) ≡ Some asked)
@@ -99,7 +100,7 @@ StoredResponseIsSentExactlyWhereItMayBe table start item past = (s : ℕ) →
 -- and what is sent is that response: its content, its head or its 304
 abbrev pub SentResponseIsTheStoredOne : Table → StoreAtStart → Item → List Item → Type 0
 SentResponseIsTheStoredOne table start item past = (s : ℕ) → serial_used_by_outcome item.outcome ≡ Some s →
-    ReplyIsTheStoredResponse table (held_entries table start past)
+    ReplySendsTheStoredResponse table (held_entries table start past)
     (find_exchange (exchange_id_of_event item.event) (open_exchanges table start past)) item.event item.outcome s
 
 -- every other answer names the first rule against it: the line of the table, the least reuse rule
@@ -140,15 +141,16 @@ ConnectionClosesAsAsked item past = (reply : Reply) → item.outcome ≡ ReplyDa
 
 -- and what is told of the outcome is what it is: its status, its rule or cause, the line whose origin was asked
 abbrev pub OutcomeIsReportedTruthfully : Table → StoreAtStart → ℕ → Item → List Item → Type 0
-OutcomeIsReportedTruthfully table start first item past = about_by_outcome item.outcome
-    ≡ about_of_event table (held_entries table start past) (open_exchanges table start past) (next_serial first past)
+OutcomeIsReportedTruthfully table start first item past = report_by_outcome item.outcome
+    ≡ report_of_event_reply table (held_entries table start past) (open_exchanges table start past)
+    (next_serial first past)
     item.event
 
 pub record Headline (table : Table) (start : StoreAtStart) (first : ℕ) (trace : List Item) : Type 0 where
-  pub store_at_start_is_valid : StartIsValid (bounds_of table start.limit) (Some first) start.entries
+  pub store_at_start_is_valid : StoreAtStartIsValid (bounds_of table start.limit) (Some first) start.entries
   pub events_fit_exchanges : HoldsAtEachItem (EachEventSuitsExchange table start) trace
   pub reaches_cache_or_origin_iff_allowed : HoldsAtEachItem (RequestReachesCacheOrOriginIffAllowed table start) trace
-  pub goes_forward_where_allowed : HoldsAtEachItem (RequestGoesForwardWhereAllowed table start) trace
+  pub goes_forward_where_allowed : HoldsAtEachItem (RequestGoesForwardOnlyWhereAllowed table start) trace
   pub client_is_answered : HoldsAtEachItem (ClientIsAnsweredAtTheNextStep table start) trace
   pub sends_stored_where_allowed : HoldsAtEachItem (StoredResponseIsSentExactlyWhereItMayBe table start) trace
   pub sends_the_stored_response : HoldsAtEachItem (SentResponseIsTheStoredOne table start) trace

@@ -13,7 +13,7 @@ use Rattle.hx_hop.specs.declared.request_view.Asked.{Asked}
 use Rattle.hx_policy.specs.declared.words.Policy.{Policy}
 use Rattle.hx_allow.specs.Matching.{policy_of}
 use Rattle.hx_allow.specs.TableLines.{Table}
-use Rattle.hx_allow.specs.declared.verdicts.RequestRoute.{RequestRoute}
+use Rattle.hx_allow.specs.declared.verdicts.RouteOverLine.{RouteOverLine}
 use Rattle.hx_reuse.specs.Conditions.{withholds_conditions}
 use Rattle.hx_validate.specs.ClientConditions.{ConditionIsFalse}
 use Rattle.proxy_core.specs.declared.open.exchange.Exchange.{Exchange}
@@ -23,7 +23,7 @@ use Rattle.proxy_core.specs.declared.event.Event.TheVariants.{Answer}
 use Rattle.proxy_core.specs.Histories.{IsGoodHistory, next_serial, open_exchanges}
 use Rattle.proxy_core.specs.Leading.{sends_clients_condition}
 use Rattle.proxy_core.specs.Outcomes.{find_exchange, forward_text}
-use Rattle.proxy_core.specs.Replies.{answer_in_range_text, not_modified_answer_text, range_of_answer}
+use Rattle.proxy_core.specs.Replies.{text_of_answer_or_its_range, not_modified_answer_text, part_of_answer_to_send}
 use Rattle.proxy_core.specs.Starts.{StoreAtStart}
 use Rattle.proxy_core.specs.Storing.{is_304_without_condition, storing_rule_to_explain}
 use Rattle.proxy_core.specs.Traces.{Item}
@@ -60,13 +60,13 @@ TrueOrNoConditionGetsTheAnswer = (table : Table) (start : StoreAtStart) (first n
     (x : Exchange) (r : Response) (reply : Reply)
     → AnswerWhereConditionsWereWithheld table start first item past now x r reply
     → (ConditionIsFalse x.asked r.status (answered_of r now).fields → ⊥)
-    → reply.bytes ≡ answer_in_range_text (policy_of table.lines x.line) table.name x r now (is_some reply.stored)
+    → reply.bytes ≡ text_of_answer_or_its_range (policy_of table.lines x.line) table.name x r now (is_some reply.stored)
     (storing_rule_to_explain table x r now (next_serial first past))
-    (range_of_answer (policy_of table.lines x.line) x r now)
+    (part_of_answer_to_send (policy_of table.lines x.line) x r now)
 
 -- what goes forward has none of the two conditions, where the proxy has none of its own to send
 abbrev pub NoClientsConditionGoesForward : Type 0
-NoClientsConditionGoesForward = (table : Table) (line : RequestRoute) (asked : Asked) →
+NoClientsConditionGoesForward = (table : Table) (line : RouteOverLine) (asked : Asked) →
     withholds_conditions (policy_of table.lines line) asked ≡ true →
     (request : Request) × (forward_text table line asked None ≡ request_text request)
     × (has_field request.fields (codes "If-None-Match") ≡ false)

@@ -1,6 +1,6 @@
 -- Which open exchange others wait for, and which may be woken.
 --
--- exchange_asks_for_awaited: an exchange went forward for what a request could be sent
+-- exchange_went_forward_for_awaited: an exchange went forward for what a request could be sent
 -- answer_may_be_shared_with, answer_may_serve: nothing that is known keeps its answer from that request
 -- is_leader_for_request: the request waits for this exchange
 -- leader: the first of these to arrive
@@ -63,8 +63,8 @@ abbrev pub has_authorization : Asked → Bool
 has_authorization asked = has_line asked.fields (codes "Authorization")
 
 -- its answer isn't stored (RFC 9111, section 5.2.1.5)
-abbrev pub has_no_store : Asked → Bool
-has_no_store asked = has_directive (occurrences_of asked.fields) NoStore
+abbrev pub request_has_no_store : Asked → Bool
+request_has_no_store asked = has_directive (occurrences_of asked.fields) NoStore
 
 -- A condition of the client's own is at the origin (RFC 9110, sections 13.1.2 and 13.1.3): where the
 -- proxy sends one, or keeps the client's, it takes the client's out. A 304 to it is for that client, and brings nothing
@@ -79,9 +79,9 @@ option_names_serial (Some named) serial = named == serial
 -- The exchange went forward for this: nothing was held for its key, or its rule names that held
 -- response, whichever rule that is. Whoever has a response validated freshens it for all (RFC 9111,
 -- section 4.3.4).
-abbrev pub exchange_asks_for_awaited : Awaited → Exchange → Bool
-exchange_asks_for_awaited Missing x = is_uri_miss x.rule
-exchange_asks_for_awaited (Expired serial) x = option_names_serial x.named serial
+abbrev pub exchange_went_forward_for_awaited : Awaited → Exchange → Bool
+exchange_went_forward_for_awaited Missing x = is_uri_miss x.rule
+exchange_went_forward_for_awaited (Expired serial) x = option_names_serial x.named serial
 
 abbrev pub bools_are_equal : Bool → Bool → Bool
 bools_are_equal a b = cond a b (not b)
@@ -112,7 +112,7 @@ abbrev pub is_leader_for_request : Policy → Awaited → Asked → Exchange →
 is_leader_for_request policy awaited asked x =
     same_key x.asked.target.key asked.target.key
     && (is_get x.asked
-    && (is_forwarded x.stage && (exchange_asks_for_awaited awaited x && answer_may_serve policy asked x)))
+    && (is_forwarded x.stage && (exchange_went_forward_for_awaited awaited x && answer_may_serve policy asked x)))
 
 -- of those the first to arrive
 abbrev pub leader : Policy → Awaited → Asked → List Exchange → Option ℕ

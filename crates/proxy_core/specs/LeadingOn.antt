@@ -2,10 +2,10 @@
 --
 -- wait_is_limited: over its line the request of an exchange waits for a limited time
 -- may_lead_next, first_waiter_to_lead: the first of those that wait whose answer others could be sent
--- count_waiting, most_followers, next_leader: the same, where not too many wait
+-- count_waiting_for, most_followers_led_on, next_leader: the same, where not too many wait
 -- follows_next_leader: one that could be sent that answer, and waits for it
--- stage_after_leader, after_abandon, exchanges_after_abandon: what becomes of them
--- ExchangeMayBecomeLeader, IsNextLeader, CouldBeSentAnswerOfNextLeader: the same in words
+-- stage_after_leader, waiter_after_abandon, exchanges_after_abandon: what becomes of them
+-- ExchangeMayBecomeLeader, IsNextLeader, WaiterCouldBeSentNextLeadersAnswer: the same in words
 use Rattle.std.specs.Prelude.{◌≡◌, ℕ, ◌≤◌, nat_le, ◌==◌, ◌&&◌, ◌||◌, not, Bool, true, false, List, [], ◌∷◌, ◌++◌}
 use Rattle.std.specs.Prelude.{Option, Some, None, cond, is_some, filter, length, map}
 use Rattle.std.specs.List.{AllByRecursion}
@@ -48,18 +48,19 @@ abbrev pub exchanges_without : ℕ → List Exchange → List Exchange
 exchanges_without id xs = filter (λ x. not (x.id == id)) xs
 
 -- how many wait for the exchange of this id
-abbrev pub count_waiting : ℕ → List Exchange → ℕ
-count_waiting id xs = length (filter (λ x. waits_for id x.stage) xs)
+abbrev pub count_waiting_for : ℕ → List Exchange → ℕ
+count_waiting_for id xs = length (filter (λ x. waits_for id x.stage) xs)
 
 -- own: so many are led on at most. Each of them is looked at, so what one client costs that goes away has a bound
 -- ("The first that waits leads on").
-abbrev pub most_followers : ℕ
-most_followers = 512
+abbrev pub most_followers_led_on : ℕ
+most_followers_led_on = 512
 
 -- of the others the first that may lead on, where no more wait than are led on
 abbrev pub next_leader : Table → ℕ → List Exchange → Option NextLeader
 next_leader table id xs =
-    cond (nat_le (count_waiting id xs) most_followers) (first_waiter_to_lead table id (exchanges_without id xs)) None
+    cond (nat_le (count_waiting_for id xs) most_followers_led_on)
+    (first_waiter_to_lead table id (exchanges_without id xs)) None
 
 -- It could be sent the answer to the next leader, whose key is its own.
 -- own: as where it began to wait, over a line with the word one waits for one with Authorization exactly where it has
@@ -78,13 +79,15 @@ stage_after_leader table None x = Released
 stage_after_leader table (Some next) x = cond (follows_next_leader table next x) (Waiting next.id) Released
 
 -- what becomes of an exchange where the client of the one of this id goes away
-abbrev pub after_abandon : Table → Option NextLeader → ℕ → Exchange → Exchange
-after_abandon table next id x = cond (waits_for id x.stage) (record x { stage = stage_after_leader table next x }) x
+abbrev pub waiter_after_abandon : Table → Option NextLeader → ℕ → Exchange → Exchange
+waiter_after_abandon table next id x =
+    cond (waits_for id x.stage) (record x { stage = stage_after_leader table next x }) x
 
 -- own: an exchange ends since its client went away, and the first that waits for it leads on, if one may ("The first
 -- that waits leads on")
 abbrev pub exchanges_after_abandon : Table → ℕ → List Exchange → List Exchange
-exchanges_after_abandon table id xs = map (after_abandon table (next_leader table id xs) id) (exchanges_without id xs)
+exchanges_after_abandon table id xs =
+    map (waiter_after_abandon table (next_leader table id xs) id) (exchanges_without id xs)
 
 -- ---- in words
 
@@ -104,11 +107,11 @@ pub record IsNextLeader (table : Table) (id : ℕ) (xs : List Exchange) (x : Exc
   pub open_exchanges_are : xs ≡ before ++ x ∷ behind
   pub it_may_lead : ExchangeMayBecomeLeader table id x
   pub none_before : AllByRecursion (λ (y : Exchange). ExchangeMayBecomeLeader table id y → ⊥) before
-  pub few_enough_wait : count_waiting id xs ≤ most_followers
+  pub few_enough_wait : count_waiting_for id xs ≤ most_followers_led_on
 
 -- Another exchange waits for a limited time, and the answer to this one could be sent to it: over a line with the word
 -- both have Authorization, or neither has.
-pub record CouldBeSentAnswerOfNextLeader (table : Table) (next x : Exchange) : Type 0 where
+pub record WaiterCouldBeSentNextLeadersAnswer (table : Table) (next x : Exchange) : Type 0 where
   pub another : (x.id == next.id) ≡ false
   pub has_limited_wait : wait_is_limited table x ≡ true
   pub has_same_authorization : (policy_of table.lines x.line).waits_for_stale ≡ true

@@ -19,7 +19,7 @@ use Rattle.hx_allow.specs.Matching.{policy_of}
 use Rattle.proxy_core.specs.Allowing.{verdict_of_asked}
 use Rattle.hx_allow.specs.declared.verdicts.Verdict.TheVariants.{Allowed, DeniedBy, NoLine as Unmatched}
 use Rattle.hx_allow.specs.declared.verdicts.Verdict.TheVariants as verdict
-use Rattle.hx_allow.specs.declared.verdicts.RequestRoute.{RequestRoute}
+use Rattle.hx_allow.specs.declared.verdicts.RouteOverLine.{RouteOverLine}
 use Rattle.hx_store.specs.Stored.{Stored}
 use Rattle.hx_reuse.specs.Chosen.{chosen_of}
 use Rattle.hx_reuse.specs.Rules.{is_rule_on_chosen}
@@ -55,7 +55,7 @@ ArrivalAnswerNamesItsCause table held now asked bytes =
     × (bytes ≡ refusal_reply_text (date_text_of now) (Denied line) asked.close (is_head asked)))
     ⊎ (((verdict_of_asked table asked ≡ Unmatched)
     × (bytes ≡ refusal_reply_text (date_text_of now) NoLine asked.close (is_head asked)))
-    ⊎ (((line : RequestRoute) × (rule : ReuseRule) × (verdict_of_asked table asked ≡ Allowed line)
+    ⊎ (((line : RouteOverLine) × (rule : ReuseRule) × (verdict_of_asked table asked ≡ Allowed line)
     × (is_only_if_cached asked ≡ true) × IsLeastReuseRule (policy_of table.lines line) held asked now rule
     × (bytes ≡ refusal_reply_text (date_text_of now) (OnlyIfCached rule) asked.close (is_head asked)))
     ⊎ (((line : ℕ) × (verdict_of_asked table asked ≡ verdict.Looped line)
@@ -64,8 +64,8 @@ ArrivalAnswerNamesItsCause table held now asked bytes =
     × (bytes ≡ purge_reply_text (date_text_of now) (length (serials_purged_by_request asked held)) asked.close)))))
 
 -- beside a reuse rule against the chosen response: the least rule against sending it in place of an error
-abbrev pub AnswerNamesErrorRule : Policy → List Stored → ℕ → Asked → ReuseRule → Option ErrorRule → Type 0
-AnswerNamesErrorRule policy held now asked rule error =
+abbrev pub RuleOnChosenNamesErrorRule : Policy → List Stored → ℕ → Asked → ReuseRule → Option ErrorRule → Type 0
+RuleOnChosenNamesErrorRule policy held now asked rule error =
     ((is_rule_on_chosen rule ≡ false) × (error ≡ None))
     ⊎ ((is_rule_on_chosen rule ≡ true)
     × ((response : Stored) × (least : ErrorRule) × (chosen_of held asked ≡ Some response)
@@ -76,7 +76,7 @@ abbrev pub FailureAnswerNamesItsCause : Table → List Stored → ℕ → Exchan
 FailureAnswerNamesItsCause table held now x kind bytes =
     (rule : ReuseRule) ×
     (error : Option ErrorRule) × IsLeastReuseRule (policy_of table.lines x.line) held x.asked now rule
-    × AnswerNamesErrorRule (policy_of table.lines x.line) held now x.asked rule error
+    × RuleOnChosenNamesErrorRule (policy_of table.lines x.line) held now x.asked rule error
     × (bytes ≡ refusal_reply_text (date_text_of now) (Origin kind rule error) x.asked.close (is_head x.asked))
 
 -- an answer that is passed on: the least rule that stood when its request was judged, at its

@@ -2,7 +2,7 @@
 --
 -- find_exchange: the open exchange of an id        exchange_id_of_event: of an event
 -- fallback_for_failed_answer: what is held instead of an answer  arrived, answered, failed, woken: the cases
--- outcome_for_exchange, outcome_of_event: of an event
+-- outcome_of_event_at_exchange, outcome_of_event: of an event
 -- step_fault: the least fault that stands, out of memory aside
 use Rattle.std.specs.Prelude.{ℕ, ◌==◌, Bool, true, false, ◌||◌, List, [], ◌∷◌, Option, Some, None, cond, is_some}
 use Rattle.std.specs.Prelude.{length}
@@ -16,26 +16,26 @@ use Rattle.std.specs.Option.{option_and_then}
 use Rattle.hx_hop.specs.declared.request_view.Asked.{Asked}
 use Rattle.hx_hop.specs.Forwarding.{forwarded_of}
 use Rattle.hx_hop.specs.Moments.{date_text_of}
-use Rattle.hx_allow.specs.PurgeModes.{purge_mode_or_remove}
+use Rattle.hx_allow.specs.PurgeModes.{request_purge_mode_or_remove}
 use Rattle.hx_allow.specs.declared.purge_modes.PurgeMode.{PurgeMode}
 use Rattle.hx_allow.specs.TableLines.{Table}
 use Rattle.hx_allow.specs.Matching.{policy_of}
 use Rattle.proxy_core.specs.Allowing.{verdict_of_asked, exchanges_to_wait_for}
-use Rattle.hx_allow.specs.declared.verdicts.RequestRoute.{RequestRoute}
+use Rattle.hx_allow.specs.declared.verdicts.RouteOverLine.{RouteOverLine}
 use Rattle.hx_allow.specs.declared.verdicts.Verdict.{Verdict}
 use Rattle.hx_allow.specs.declared.verdicts.Verdict.TheVariants as verdict
 use Rattle.hx_store.specs.Stored.{Stored}
-use Rattle.hx_store.specs.Shelf.{find_entry, serials_of_key}
+use Rattle.hx_store.specs.Shelf.{find_entry_of_serial, serials_of_key}
 use Rattle.hx_reuse.specs.Conditions.{withholds_conditions}
-use Rattle.hx_reuse.specs.FilledRanges.{request_sent_to_origin}
+use Rattle.hx_reuse.specs.FilledRanges.{request_without_filled_range}
 use Rattle.hx_reuse.specs.Rules.{decision_of}
-use Rattle.hx_reuse.specs.ErrorRules.{error_rule_on}
+use Rattle.hx_reuse.specs.ErrorRules.{error_rule_against}
 use Rattle.hx_reuse.specs.declared.rule.ReuseRule.{ReuseRule}
 use Rattle.hx_reuse.specs.declared.rule.ErrorRule.{ErrorRule}
 use Rattle.hx_reuse.specs.declared.decision.Decision.{Decision}
 use Rattle.hx_reuse.specs.declared.decision.Decision.TheVariants as decision
 use Rattle.hx_storable.specs.declared.rule.StoreRule.{StoreRule}
-use Rattle.hx_status.specs.Abouts.{about_purge, about_refusal}
+use Rattle.hx_status.specs.Abouts.{purge_status_and_reason, refusal_status_and_reason}
 use Rattle.hx_status.specs.declared.about.StatusAndReason.{StatusAndReason}
 use Rattle.hx_status.specs.declared.about.Told.TheVariants.{Purged}
 use Rattle.hx_status.specs.declared.status.How.TheVariants.{Hit, Fwd}
@@ -49,9 +49,9 @@ use Rattle.hx_status.specs.declared.cause.Cause.TheVariants.{Denied, NoLine, Loo
 use Rattle.proxy_core.specs.declared.steps.condition.Condition.{Condition}
 use Rattle.proxy_core.specs.declared.open.stage.Stage.{Stage}
 use Rattle.proxy_core.specs.declared.open.exchange.Exchange.{Exchange}
-use Rattle.proxy_core.specs.declared.steps.fallback.Fallback.{Fallback}
-use Rattle.proxy_core.specs.declared.steps.fallback.Fallback.TheVariants.{Sends, Refuses}
-use Rattle.proxy_core.specs.declared.replies.stored_reply.CacheStatusInfo.{CacheStatusInfo}
+use Rattle.proxy_core.specs.declared.steps.fallback.FallbackDecision.{FallbackDecision}
+use Rattle.proxy_core.specs.declared.steps.fallback.FallbackDecision.TheVariants.{Sends, Refuses}
+use Rattle.proxy_core.specs.declared.replies.stored_reply.StoredCacheStatusInfo.{StoredCacheStatusInfo}
 use Rattle.proxy_core.specs.declared.outcome.Outcome.{Outcome}
 use Rattle.proxy_core.specs.declared.outcome.Outcome.TheVariants.{Reply, Forward, Waits, Ended, WaitsNoMore}
 use Rattle.proxy_core.specs.declared.event.Event.{Event}
@@ -61,14 +61,15 @@ use Rattle.proxy_core.specs.declared.core_fault.CoreFault.TheVariants.{IdTaken, 
 use Rattle.proxy_core.specs.declared.core_fault.CoreFault.TheVariants.{NotWaiting}
 use Rattle.proxy_core.specs.Moments.{moment_too_late_fault}
 use Rattle.proxy_core.specs.Leading.{is_forwarded, is_waiting, is_released}
-use Rattle.proxy_core.specs.Awaiting.{awaited_by_request, leader_of_request}
-use Rattle.proxy_core.specs.Revalidating.{sent_while_revalidating}
+use Rattle.proxy_core.specs.Awaiting.{response_awaited_by_request, leader_of_request}
+use Rattle.proxy_core.specs.Revalidating.{serial_sent_while_revalidating}
 use Rattle.proxy_core.specs.Scopes.{serials_purged_by_request, serials_removed_in_mode, serials_expired_in_mode}
 use Rattle.proxy_core.specs.Replies.{stored_reply_text, passed_answer_text, refusal_reply_text, purge_reply_text}
 use Rattle.proxy_core.specs.Replies.{is_head}
-use Rattle.proxy_core.specs.Abouts.{about_by_outcome, about_passed_answer, about_refusal_reply, about_stored}
-use Rattle.proxy_core.specs.Validating.{conditions_to_send, condition_about_serial, is_304_to_own_conditions}
-use Rattle.proxy_core.specs.Validating.{stored_response_validated, freshened_by_304, freshened_may_be_kept}
+use Rattle.proxy_core.specs.Abouts.{report_by_outcome, report_of_passed_answer, report_of_refusal_reply}
+use Rattle.proxy_core.specs.Abouts.{report_of_stored_reply}
+use Rattle.proxy_core.specs.Validating.{conditions_to_send, condition_to_revalidate_serial, is_304_to_own_conditions}
+use Rattle.proxy_core.specs.Validating.{stored_response_validated_by_304, freshened_by_304, freshened_may_be_kept}
 use Rattle.proxy_core.specs.Storing.{is_storable, storing_rule_to_explain, serials_replaced_by_storing}
 use Rattle.proxy_core.specs.Storing.{is_304_without_condition}
 use Rattle.proxy_core.specs.Storing.{status_invalidates, answer_invalidates}
@@ -79,22 +80,23 @@ find_exchange id [] = None
 find_exchange id (x ∷ xs) = cond (x.id == id) (Some x) (find_exchange id xs)
 
 -- the bytes of a held response, sent
-abbrev pub sent_stored_text : List ℕ → Option Stored → ℕ → CacheStatusInfo → Asked → List ℕ
+abbrev pub sent_stored_text : List ℕ → Option Stored → ℕ → StoredCacheStatusInfo → Asked → List ℕ
 sent_stored_text name None now info asked = []
 sent_stored_text name (Some e) now info asked = stored_reply_text name e now info asked
 
 -- and what is told of it; nothing is told where none is held
-abbrev pub about_sent_stored : Option Stored → ℕ → CacheStatusInfo → Asked → StatusAndReason
-about_sent_stored None now info asked = record { status = 0; told = Purged 0; content_length = 0; origin_line = None }
-about_sent_stored (Some e) now info asked = about_stored e now info asked
+abbrev pub report_of_stored_if_any : Option Stored → ℕ → StoredCacheStatusInfo → Asked → StatusAndReason
+report_of_stored_if_any None now info asked = record
+    { status = 0; told = Purged 0; content_length = 0; origin_line = None }
+report_of_stored_if_any (Some e) now info asked = report_of_stored_reply e now info asked
 
 -- the stored response of a serial is sent
-abbrev pub outcome_of_sending_stored : Table → List Stored → ℕ → ℕ → CacheStatusInfo → Asked → Outcome
+abbrev pub outcome_of_sending_stored : Table → List Stored → ℕ → ℕ → StoredCacheStatusInfo → Asked → Outcome
 outcome_of_sending_stored table es serial now info asked =
     Reply (record {
-      bytes = sent_stored_text table.name (find_entry serial es) now info asked;
+      bytes = sent_stored_text table.name (find_entry_of_serial serial es) now info asked;
       close = asked.close;
-      about = about_sent_stored (find_entry serial es) now info asked;
+      about = report_of_stored_if_any (find_entry_of_serial serial es) now info asked;
       stored = None;
       used = Some serial;
       removed = [];
@@ -107,7 +109,7 @@ abbrev pub outcome_of_refusal : ℕ → Cause → Asked → Outcome
 outcome_of_refusal now cause asked = Reply (record {
   bytes = refusal_reply_text (date_text_of now) cause asked.close (is_head asked);
   close = asked.close;
-  about = about_refusal_reply cause (is_head asked);
+  about = report_of_refusal_reply cause (is_head asked);
   stored = None;
   used = None;
   removed = [];
@@ -120,7 +122,7 @@ abbrev pub outcome_of_purge_reply : List ℕ → Bool → PurgeMode → List ℕ
 outcome_of_purge_reply bytes close mode taken = Reply (record {
   bytes = bytes;
   close = close;
-  about = about_purge (length taken);
+  about = purge_status_and_reason (length taken);
   stored = None;
   used = None;
   removed = serials_removed_in_mode mode taken;
@@ -132,27 +134,27 @@ outcome_of_purge_reply bytes close mode taken = Reply (record {
 abbrev pub outcome_of_purge : List Stored → ℕ → Asked → Outcome
 outcome_of_purge es now asked = outcome_of_purge_reply
     (purge_reply_text (date_text_of now) (length (serials_purged_by_request asked es)) asked.close)
-    asked.close (purge_mode_or_remove asked.fields) (serials_purged_by_request asked es)
+    asked.close (request_purge_mode_or_remove asked.fields) (serials_purged_by_request asked es)
 
 -- the bytes of a request that goes forward over a line; its own conditions and its range may stay with the proxy
-abbrev pub forward_text : Table → RequestRoute → Asked → Option Condition → List ℕ
+abbrev pub forward_text : Table → RouteOverLine → Asked → Option Condition → List ℕ
 forward_text table line asked condition =
     request_text (forwarded_of (withholds_conditions (policy_of table.lines line) asked)
-    (request_sent_to_origin (policy_of table.lines line) asked) table.name (conditions_to_send condition))
+    (request_without_filled_range (policy_of table.lines line) asked) table.name (conditions_to_send condition))
 
 -- the request takes no response but a stored one (RFC 9111, section 5.2.1.7)
 abbrev pub is_only_if_cached : Asked → Bool
 is_only_if_cached asked = has_directive (occurrences_of asked.fields) OnlyIfHeld
 
 -- a request waits for the exchange that leads, or where none does goes forward
-abbrev pub outcome_of_waiting_or_forwarding : Table → RequestRoute → Asked → Option Condition → Option ℕ → Outcome
+abbrev pub outcome_of_waiting_or_forwarding : Table → RouteOverLine → Asked → Option Condition → Option ℕ → Outcome
 outcome_of_waiting_or_forwarding table line asked condition (Some leader) = Waits leader
 outcome_of_waiting_or_forwarding table line asked condition None = Forward line
     (forward_text table line asked condition)
 
 -- what is told of a stale response that is sent while one asks the origin about it
-abbrev pub revalidating_status_info : Policy → CacheStatusInfo
-revalidating_status_info policy =
+abbrev pub stale_while_revalidating_info : Policy → StoredCacheStatusInfo
+stale_while_revalidating_info policy =
     record {
       policy = policy;
       how = Hit;
@@ -163,25 +165,26 @@ revalidating_status_info policy =
     }
 
 -- the stale response that is sent beside the exchange that leads, or where none is what follows otherwise
-abbrev pub outcome_unless_stale_is_sent : Table → List Stored → RequestRoute → ℕ → Asked → Option ℕ → Outcome → Outcome
+abbrev pub outcome_unless_stale_is_sent : Table → List Stored → RouteOverLine → ℕ → Asked → Option ℕ → Outcome → Outcome
 outcome_unless_stale_is_sent table es line now asked None otherwise = otherwise
 outcome_unless_stale_is_sent table es line now asked (Some serial) otherwise =
-    outcome_of_sending_stored table es serial now (revalidating_status_info (policy_of table.lines line)) asked
+    outcome_of_sending_stored table es serial now (stale_while_revalidating_info (policy_of table.lines line)) asked
 
 -- a rule keeps each stored response back
-abbrev pub outcome_without_stored_response : Table → List Stored → List Exchange → RequestRoute → ℕ → Asked → ReuseRule
+abbrev pub outcome_where_reuse_rule_applies : Table → List Stored → List Exchange → RouteOverLine → ℕ → Asked
+    → ReuseRule
     → Option Condition → Bool → Outcome
-outcome_without_stored_response table es xs line now asked rule condition true = outcome_of_refusal now
+outcome_where_reuse_rule_applies table es xs line now asked rule condition true = outcome_of_refusal now
     (OnlyIfCached rule) asked
-outcome_without_stored_response table es xs line now asked rule condition false =
+outcome_where_reuse_rule_applies table es xs line now asked rule condition false =
     outcome_unless_stale_is_sent table es line now asked
-    (sent_while_revalidating (policy_of table.lines line) es asked now
-    (awaited_by_request (policy_of table.lines line) es asked rule)
+    (serial_sent_while_revalidating (policy_of table.lines line) es asked now
+    (response_awaited_by_request (policy_of table.lines line) es asked rule)
     (leader_of_request (policy_of table.lines line) es (exchanges_to_wait_for table line asked xs) asked rule))
     (outcome_of_waiting_or_forwarding table line asked condition
     (leader_of_request (policy_of table.lines line) es (exchanges_to_wait_for table line asked xs) asked rule))
 
-abbrev pub hit_status_info : Policy → CacheStatusInfo
+abbrev pub hit_status_info : Policy → StoredCacheStatusInfo
 hit_status_info policy = record {
   policy = policy;
   how = Hit;
@@ -193,12 +196,12 @@ hit_status_info policy = record {
 
 -- an allowed request: the stored response that no rule keeps back is sent, else one that may be sent while another
 -- asks, else the request waits or goes forward
-abbrev pub outcome_of_allowed_request : Table → List Stored → List Exchange → RequestRoute → ℕ → Asked → Decision
+abbrev pub outcome_of_allowed_request : Table → List Stored → List Exchange → RouteOverLine → ℕ → Asked → Decision
     → Outcome
 outcome_of_allowed_request table es xs line now asked (decision.Hit serial) =
     outcome_of_sending_stored table es serial now (hit_status_info (policy_of table.lines line)) asked
 outcome_of_allowed_request table es xs line now asked (decision.Forward rule against) =
-    outcome_without_stored_response table es xs line now asked rule (condition_about_serial es against)
+    outcome_where_reuse_rule_applies table es xs line now asked rule (condition_to_revalidate_serial es against)
     (is_only_if_cached asked)
 
 abbrev pub outcome_of_arrival : Table → List Stored → List Exchange → ℕ → Asked → Verdict → Outcome
@@ -211,8 +214,8 @@ outcome_of_arrival table es xs now asked (verdict.Purged line) = outcome_of_purg
 
 -- what is told of a stored response that is sent after going forward: the rule at arrival, the status of an answer
 -- that came, and the word of the step
-abbrev pub forwarded_status_info : Policy → Exchange → Option ℕ → Option Detail → CacheStatusInfo
-forwarded_status_info policy x came detail =
+abbrev pub sent_after_forward_status_info : Policy → Exchange → Option ℕ → Option Detail → StoredCacheStatusInfo
+sent_after_forward_status_info policy x came detail =
     record {
       policy = policy;
       how = Fwd x.rule;
@@ -223,51 +226,52 @@ forwarded_status_info policy x came detail =
     }
 
 -- and of one that is sent to a request that waited for another's answer (RFC 9211, section 2.6)
-abbrev pub collapsed_status_info : Policy → Exchange → CacheStatusInfo
+abbrev pub collapsed_status_info : Policy → Exchange → StoredCacheStatusInfo
 collapsed_status_info policy x =
     record { policy = policy; how = Fwd x.rule; came = None; detail = None; collapsed = true; origin_line = None }
 
 -- the error rule against the held response of a serial
-abbrev pub error_rule_for_serial : Policy → List Stored → ℕ → Asked → ℕ → Option ErrorRule
-error_rule_for_serial policy es serial asked now =
-    option_and_then (λ e. error_rule_on policy e (occurrences_of asked.fields) now) (find_entry serial es)
+abbrev pub error_rule_against_serial : Policy → List Stored → ℕ → Asked → ℕ → Option ErrorRule
+error_rule_against_serial policy es serial asked now =
+    option_and_then (λ e. error_rule_against policy e (occurrences_of asked.fields) now)
+    (find_entry_of_serial serial es)
 
-abbrev pub fallback_with_error_rule : ReuseRule → ℕ → Option ErrorRule → Fallback
-fallback_with_error_rule rule serial None = Sends serial StaleIfError
-fallback_with_error_rule rule serial (Some error) = Refuses rule (Some error)
+abbrev pub fallback_by_error_rule : ReuseRule → ℕ → Option ErrorRule → FallbackDecision
+fallback_by_error_rule rule serial None = Sends serial StaleIfError
+fallback_by_error_rule rule serial (Some error) = Refuses rule (Some error)
 
 -- what is held instead of an answer: the one that a rule names and no error rule keeps back (RFC 5861, section 4)
 -- own: or the response that no reuse rule keeps back now ("A failed origin after the store was filled")
-abbrev pub fallback_for_failed_answer : Policy → List Stored → Asked → ℕ → Decision → Fallback
+abbrev pub fallback_for_failed_answer : Policy → List Stored → Asked → ℕ → Decision → FallbackDecision
 fallback_for_failed_answer policy es asked now (decision.Hit serial) = Sends serial ReuseAfterError
 fallback_for_failed_answer policy es asked now (decision.Forward rule None) = Refuses rule None
 fallback_for_failed_answer policy es asked now (decision.Forward rule (Some serial)) =
-    fallback_with_error_rule rule serial (error_rule_for_serial policy es serial asked now)
+    fallback_by_error_rule rule serial (error_rule_against_serial policy es serial asked now)
 
 -- what is held for the key of a request goes where the status that came invalidates it (RFC 9111, section 4.4)
-abbrev pub serials_removed_by_status : List Stored → Asked → Option ℕ → List ℕ
-serials_removed_by_status es asked None = []
-serials_removed_by_status es asked (Some status) =
+abbrev pub serials_invalidated_by_status : List Stored → Asked → Option ℕ → List ℕ
+serials_invalidated_by_status es asked None = []
+serials_invalidated_by_status es asked (Some status) =
     cond (status_invalidates asked status) (serials_of_key asked.target.key es) []
 
 -- a reply after the origin of this line was asked, by which these are held no longer
-abbrev pub outcome_after_origin : RequestRoute → List ℕ → Outcome → Outcome
-outcome_after_origin line removed (Reply r) = Reply (record r {
+abbrev pub reply_after_origin_was_asked : RouteOverLine → List ℕ → Outcome → Outcome
+reply_after_origin_was_asked line removed (Reply r) = Reply (record r {
   removed = removed;
   about = record r.about { origin_line = Some line.number };
 })
-outcome_after_origin line removed (Forward other bytes) = Forward other bytes
-outcome_after_origin line removed (Waits leader) = Waits leader
-outcome_after_origin line removed Ended = Ended
-outcome_after_origin line removed WaitsNoMore = WaitsNoMore
+reply_after_origin_was_asked line removed (Forward other bytes) = Forward other bytes
+reply_after_origin_was_asked line removed (Waits leader) = Waits leader
+reply_after_origin_was_asked line removed Ended = Ended
+reply_after_origin_was_asked line removed WaitsNoMore = WaitsNoMore
 
 -- A failure sends such a response, else it is named with the rules that keep it back. A status may have come with it.
-abbrev pub outcome_of_failure : Table → List Stored → ℕ → Exchange → FailKind → Option ℕ → Fallback → Outcome
+abbrev pub outcome_of_failure : Table → List Stored → ℕ → Exchange → FailKind → Option ℕ → FallbackDecision → Outcome
 outcome_of_failure table es now x kind came (Sends serial detail) =
-    outcome_of_sending_stored table es serial now (forwarded_status_info (policy_of table.lines x.line) x came
+    outcome_of_sending_stored table es serial now (sent_after_forward_status_info (policy_of table.lines x.line) x came
     (Some detail)) x.asked
 outcome_of_failure table es now x kind came (Refuses rule error) =
-    outcome_after_origin x.line (serials_removed_by_status es x.asked came)
+    reply_after_origin_was_asked x.line (serials_invalidated_by_status es x.asked came)
     (outcome_of_refusal now (Origin kind rule error) x.asked)
 
 -- the serial under which an answer is stored, if it is
@@ -285,7 +289,7 @@ outcome_of_passing_on table es now x r rule stored =
     Reply (record {
       bytes = passed_answer_text (policy_of table.lines x.line) table.name x r now (is_some stored) rule;
       close = x.asked.close;
-      about = about_passed_answer (policy_of table.lines x.line) x r now (is_some stored) rule;
+      about = report_of_passed_answer (policy_of table.lines x.line) x r now (is_some stored) rule;
       stored = stored;
       used = None;
       removed = serials_removed_by_answer es x r stored;
@@ -294,14 +298,15 @@ outcome_of_passing_on table es now x r rule stored =
     })
 
 -- the statuses in whose place a stored response may be sent (RFC 5861, section 4)
-abbrev pub is_error_status : ℕ → Bool
-is_error_status status = (status == 500) || (status == 502) || (status == 503) || (status == 504)
+abbrev pub is_stale_if_error_status : ℕ → Bool
+is_stale_if_error_status status = (status == 500) || (status == 502) || (status == 503) || (status == 504)
 
 -- an answer of the origin is passed on, but for such a status where a stored response may be sent
-abbrev pub outcome_of_passing_on_or_stale : Table → List Stored → ℕ → Exchange → Response → Option ℕ → Bool → Fallback
+abbrev pub outcome_of_passing_on_or_stale : Table → List Stored → ℕ → Exchange → Response → Option ℕ → Bool
+    → FallbackDecision
     → Outcome
 outcome_of_passing_on_or_stale table es now x r next true (Sends serial detail) =
-    outcome_of_sending_stored table es serial now (forwarded_status_info (policy_of table.lines x.line) x
+    outcome_of_sending_stored table es serial now (sent_after_forward_status_info (policy_of table.lines x.line) x
     (Some r.status) (Some detail)) x.asked
 outcome_of_passing_on_or_stale table es now x r next true (Refuses rule error) =
     outcome_of_passing_on table es now x r (storing_rule_to_explain table x r now next)
@@ -315,9 +320,10 @@ abbrev pub outcome_of_sending_freshened : Table → Exchange → Response → �
 outcome_of_sending_freshened table x r now e =
     Reply (record {
       bytes = stored_reply_text table.name e now
-          (forwarded_status_info (policy_of table.lines x.line) x (Some r.status) None) x.asked;
+          (sent_after_forward_status_info (policy_of table.lines x.line) x (Some r.status) None) x.asked;
       close = x.asked.close;
-      about = about_stored e now (forwarded_status_info (policy_of table.lines x.line) x (Some r.status) None) x.asked;
+      about = report_of_stored_reply e now
+          (sent_after_forward_status_info (policy_of table.lines x.line) x (Some r.status) None) x.asked;
       stored = None;
       used = Some e.serial;
       removed = cond (freshened_may_be_kept table x r e) [] (e.serial ∷ []);
@@ -332,7 +338,7 @@ outcome_of_sending_freshened table x r now e =
 abbrev pub outcome_of_304 : Table → List Stored → ℕ → Exchange → Response → Option Stored → Decision → Outcome
 outcome_of_304 table es now x r (Some e) d = outcome_of_sending_freshened table x r now (freshened_by_304 x r now e)
 outcome_of_304 table es now x r None (decision.Hit serial) = outcome_of_sending_stored table es serial now
-    (forwarded_status_info (policy_of table.lines x.line) x (Some r.status) (Some ReuseAfter304)) x.asked
+    (sent_after_forward_status_info (policy_of table.lines x.line) x (Some r.status) (Some ReuseAfter304)) x.asked
 outcome_of_304 table es now x r None (decision.Forward rule against) = Forward x.line
     (forward_text table x.line x.asked None)
 
@@ -340,11 +346,12 @@ outcome_of_304 table es now x r None (decision.Forward rule against) = Forward x
 -- answer is passed on, and stored where no rule stands, unless a stored response is sent in its place
 abbrev pub outcome_of_answer : Table → List Stored → ℕ → Exchange → Response → Option ℕ → Decision → Outcome
 outcome_of_answer table es now x r next d =
-    cond (is_304_to_own_conditions x r) (outcome_of_304 table es now x r (stored_response_validated es x r now) d)
+    cond (is_304_to_own_conditions x r)
+    (outcome_of_304 table es now x r (stored_response_validated_by_304 es x r now) d)
     (cond (is_304_without_condition (policy_of table.lines x.line) x.asked r)
     (outcome_of_failure table es now x BadAnswer (Some r.status)
     (fallback_for_failed_answer (policy_of table.lines x.line) es x.asked now d))
-    (outcome_of_passing_on_or_stale table es now x r next (is_error_status r.status)
+    (outcome_of_passing_on_or_stale table es now x r next (is_stale_if_error_status r.status)
     (fallback_for_failed_answer (policy_of table.lines x.line) es x.asked now d)))
 
 abbrev pub exchange_id_of_event : Event → ℕ
@@ -362,33 +369,34 @@ abbrev pub outcome_of_wake : Table → List Stored → ℕ → Exchange → Deci
 outcome_of_wake table es now x (decision.Hit serial) =
     outcome_of_sending_stored table es serial now (collapsed_status_info (policy_of table.lines x.line) x) x.asked
 outcome_of_wake table es now x (decision.Forward rule against) =
-    Forward x.line (forward_text table x.line x.asked (condition_about_serial es against))
+    Forward x.line (forward_text table x.line x.asked (condition_to_revalidate_serial es against))
 
 -- the outcome of an event, by cases; x is the open exchange of its id
-abbrev pub outcome_for_exchange : Table → List Stored → List Exchange → Option Exchange → Option ℕ → Event → Outcome
-outcome_for_exchange table es xs x next (Arrive now id asked) =
+abbrev pub outcome_of_event_at_exchange : Table → List Stored → List Exchange → Option Exchange → Option ℕ → Event
+    → Outcome
+outcome_of_event_at_exchange table es xs x next (Arrive now id asked) =
     outcome_of_arrival table es xs now asked (verdict_of_asked table asked)
-outcome_for_exchange table es xs (Some x) next (Answer now id r) =
+outcome_of_event_at_exchange table es xs (Some x) next (Answer now id r) =
     outcome_of_answer table es now x r next (decision_of (policy_of table.lines x.line) es x.asked now)
-outcome_for_exchange table es xs None next (Answer now id r) = Ended
-outcome_for_exchange table es xs (Some x) next (Fail now id kind) = outcome_of_failure table es now x kind None
+outcome_of_event_at_exchange table es xs None next (Answer now id r) = Ended
+outcome_of_event_at_exchange table es xs (Some x) next (Fail now id kind) = outcome_of_failure table es now x kind None
     (fallback_for_failed_answer (policy_of table.lines x.line) es x.asked now
     (decision_of (policy_of table.lines x.line) es x.asked now))
-outcome_for_exchange table es xs None next (Fail now id kind) = Ended
-outcome_for_exchange table es xs (Some x) next (Wake now id) =
+outcome_of_event_at_exchange table es xs None next (Fail now id kind) = Ended
+outcome_of_event_at_exchange table es xs (Some x) next (Wake now id) =
     outcome_of_wake table es now x (decision_of (policy_of table.lines x.line) es x.asked now)
-outcome_for_exchange table es xs None next (Wake now id) = Ended
-outcome_for_exchange table es xs x next (Abandon id) = Ended
-outcome_for_exchange table es xs x next (Overdue id) = WaitsNoMore
+outcome_of_event_at_exchange table es xs None next (Wake now id) = Ended
+outcome_of_event_at_exchange table es xs x next (Abandon id) = Ended
+outcome_of_event_at_exchange table es xs x next (Overdue id) = WaitsNoMore
 
 -- over the held responses, all open exchanges in the order of arrival, and the next serial
 abbrev pub outcome_of_event : Table → List Stored → List Exchange → Option ℕ → Event → Outcome
-outcome_of_event table es xs next event = outcome_for_exchange table es xs
+outcome_of_event table es xs next event = outcome_of_event_at_exchange table es xs
     (find_exchange (exchange_id_of_event event) xs) next event
 
 -- what is told of that outcome, if it is a reply
-abbrev pub about_of_event : Table → List Stored → List Exchange → Option ℕ → Event → Option StatusAndReason
-about_of_event table es xs next event = about_by_outcome (outcome_of_event table es xs next event)
+abbrev pub report_of_event_reply : Table → List Stored → List Exchange → Option ℕ → Event → Option StatusAndReason
+report_of_event_reply table es xs next event = report_by_outcome (outcome_of_event table es xs next event)
 
 abbrev pub fault_else : Option CoreFault → Option CoreFault → Option CoreFault
 fault_else (Some fault) later = Some fault
@@ -407,9 +415,9 @@ abbrev pub fault_if_not_waiting : Stage → Option CoreFault
 fault_if_not_waiting stage = cond (is_waiting stage) None (Some NotWaiting)
 
 -- what stands against any event of an open exchange: it isn't open, or the moment has no date
-abbrev pub fault_at_moment : Option Exchange → ℕ → Option CoreFault
-fault_at_moment None now = Some UnknownId
-fault_at_moment (Some x) now = moment_too_late_fault now
+abbrev pub fault_of_exchange_or_moment : Option Exchange → ℕ → Option CoreFault
+fault_of_exchange_or_moment None now = Some UnknownId
+fault_of_exchange_or_moment (Some x) now = moment_too_late_fault now
 
 -- the least fault that stands, out of memory aside
 abbrev pub fault_at_exchange : Option Exchange → Event → Option CoreFault

@@ -1,14 +1,14 @@
 -- A reply that was made, and what it will do to the store.
 --
 -- outcome_of_pending_reply: the outcome that it is      entries_after_change: the held responses that it leaves
--- state_after_reply: the core that it leaves     ReplyLeavesHeldAsStepDoes: it leaves what the step leaves
+-- state_after_reply: the core that it leaves     HeldAfterReplyIsThatOfStep: it leaves what the step leaves
 use Rattle.std.specs.Prelude.{◌≡◌, ℕ, Bool, true, false, List, [], ◌∷◌, Option, Some, None, option_map}
 use Rattle.std.specs.Option.{ForSome}
 use Rattle.hx_framing.specs.declared.messages.Response.{Response}
 use Rattle.hx_target.specs.declared.keys.Key.{Key}
 use Rattle.hx_target.specs.Keys.{same_key}
 use Rattle.hx_store.specs.Stored.{Stored}
-use Rattle.hx_store.specs.Shelf.{holds_serial, find_entry, without_serials, entries_with_promoted}
+use Rattle.hx_store.specs.Shelf.{holds_serial, find_entry_of_serial, without_serials, entries_with_promoted}
 use Rattle.hx_store.specs.Weights.{StoreBounds}
 use Rattle.proxy_core.specs.declared.open.exchange.Exchange.{Exchange}
 use Rattle.proxy_core.specs.declared.outcome.Outcome.{Outcome}
@@ -20,8 +20,9 @@ use Rattle.proxy_core.specs.declared.replies.pending.Change.{Change}
 use Rattle.proxy_core.specs.declared.replies.pending.Change.TheVariants.{Keep, Use, Freshen, Remove, Store}
 use Rattle.proxy_core.specs.declared.replies.pending.PendingReply.{PendingReply}
 use Rattle.proxy_core.specs.Scopes.{scope_of_target_alone}
-use Rattle.proxy_core.specs.State.{State, entries_without_serials, exchanges_after_end, next_serial_after}
-use Rattle.proxy_core.specs.State.{entries_after_event, bounds_of, evicted_if_stored_or_used}
+use Rattle.proxy_core.specs.State.{State, entries_without_serials, exchanges_after_exchange_end}
+use Rattle.proxy_core.specs.State.{next_serial_after_storing}
+use Rattle.proxy_core.specs.State.{entries_after_event, bounds_of, cut_to_bounds_if_stored_or_used}
 use Rattle.proxy_core.specs.Storing.{stored_response_made}
 
 -- the serial that is stored
@@ -64,7 +65,7 @@ entries_before_eviction removed (Store e) es = e ∷ without_serials removed es
 -- and once the last ones went
 abbrev pub entries_after_change : StoreBounds → List ℕ → Change → List Stored → List Stored
 entries_after_change bounds removed c es =
-    evicted_if_stored_or_used bounds (serial_stored_by_change c) (serial_used_by_change c)
+    cut_to_bounds_if_stored_or_used bounds (serial_stored_by_change c) (serial_used_by_change c)
     (entries_before_eviction removed c es)
 
 -- the core after a pending reply by which the exchange of this id ends, and by which this key may be invalidated
@@ -73,8 +74,8 @@ state_after_reply s id p invalidated = record {
   table = s.table;
   limit = s.limit;
   entries = entries_after_change (bounds_of s.table s.limit) p.removed p.change s.entries;
-  exchanges = exchanges_after_end (option_map scope_of_target_alone invalidated) id s.exchanges;
-  next = next_serial_after s.next (serial_stored_by_change p.change);
+  exchanges = exchanges_after_exchange_end (option_map scope_of_target_alone invalidated) id s.exchanges;
+  next = next_serial_after_storing s.next (serial_stored_by_change p.change);
 }
 
 -- what is stored has the next serial
@@ -98,7 +99,7 @@ abbrev pub FreshensHeldResponse : Change → List Stored → Type 0
 FreshensHeldResponse Keep es = Unit {0}
 FreshensHeldResponse (Use serial) es = Unit {0}
 FreshensHeldResponse (Freshen e) es = (holds_serial e.serial es ≡ true)
-    × ForSome (find_entry e.serial es) (λ old. same_key old.key e.key ≡ true)
+    × ForSome (find_entry_of_serial e.serial es) (λ old. same_key old.key e.key ≡ true)
 FreshensHeldResponse (Remove serial) es = Unit {0}
 FreshensHeldResponse (Store e) es = Unit {0}
 
@@ -111,16 +112,16 @@ ChangeIsMadeByAnswer x r now (Remove serial) = ⊥
 ChangeIsMadeByAnswer x r now (Store e) = e ≡ stored_response_made e.serial x r now
 
 -- a held response is sent as it is, or none is, and none is stored
-abbrev pub ChangeStoresNothing : Change → Type 0
-ChangeStoresNothing Keep = Unit {0}
-ChangeStoresNothing (Use serial) = Unit {0}
-ChangeStoresNothing (Freshen e) = ⊥
-ChangeStoresNothing (Remove serial) = ⊥
-ChangeStoresNothing (Store e) = ⊥
+abbrev pub ChangeOnlyKeepsOrUses : Change → Type 0
+ChangeOnlyKeepsOrUses Keep = Unit {0}
+ChangeOnlyKeepsOrUses (Use serial) = Unit {0}
+ChangeOnlyKeepsOrUses (Freshen e) = ⊥
+ChangeOnlyKeepsOrUses (Remove serial) = ⊥
+ChangeOnlyKeepsOrUses (Store e) = ⊥
 
 -- a pending reply leaves of the held responses what the step leaves of them
-abbrev pub ReplyLeavesHeldAsStepDoes : StoreBounds → List Stored → Exchange → Event → PendingReply → Type 0
-ReplyLeavesHeldAsStepDoes bounds es x event p = entries_after_change bounds p.removed p.change es
+abbrev pub HeldAfterReplyIsThatOfStep : StoreBounds → List Stored → Exchange → Event → PendingReply → Type 0
+HeldAfterReplyIsThatOfStep bounds es x event p = entries_after_change bounds p.removed p.change es
     ≡ entries_after_event bounds es (Some x) event (outcome_of_pending_reply p)
 
 -- the outcome of an answer: the exchange ends, or goes forward once more
@@ -129,18 +130,18 @@ outcome_after_answer x (Ends p) = outcome_of_pending_reply p
 outcome_after_answer x (GoesOn bytes) = Forward x.line bytes
 
 -- what an answer leaves where the exchange ends by it
-abbrev pub AnswerLeavesHeldAsStepDoes : StoreBounds → List Stored → Exchange → Event → AfterAnswer → Type 0
-AnswerLeavesHeldAsStepDoes bounds es x event (Ends p) = ReplyLeavesHeldAsStepDoes bounds es x event p
-AnswerLeavesHeldAsStepDoes bounds es x event (GoesOn bytes) = Unit {0}
+abbrev pub HeldAfterAnswerIsThatOfStep : StoreBounds → List Stored → Exchange → Event → AfterAnswer → Type 0
+HeldAfterAnswerIsThatOfStep bounds es x event (Ends p) = HeldAfterReplyIsThatOfStep bounds es x event p
+HeldAfterAnswerIsThatOfStep bounds es x event (GoesOn bytes) = Unit {0}
 
 -- what an answer stores has the next serial, and what it freshens is held
 abbrev pub AnswerChangeIsApplicable : Option ℕ → List Stored → AfterAnswer → Type 0
 AnswerChangeIsApplicable next es (Ends p) = StoresUnderNextSerial next p.change × FreshensHeldResponse p.change es
 AnswerChangeIsApplicable next es (GoesOn bytes) = Unit {0}
 
-abbrev pub AnswerStoresNothing : AfterAnswer → Type 0
-AnswerStoresNothing (Ends p) = ChangeStoresNothing p.change
-AnswerStoresNothing (GoesOn bytes) = Unit {0}
+abbrev pub AnswerOnlyKeepsOrUsesStored : AfterAnswer → Type 0
+AnswerOnlyKeepsOrUsesStored (Ends p) = ChangeOnlyKeepsOrUses p.change
+AnswerOnlyKeepsOrUsesStored (GoesOn bytes) = Unit {0}
 
 -- a freshened response is kept, or let go
 abbrev pub IsChangeAfterFreshening : Bool → Stored → Change → Type 0

@@ -1,6 +1,6 @@
 -- What every good trace keeps, in words of its events and outcomes alone. A trace has its latest item first.
 --
--- count_of_outcomes: how many items of an exchange's id have such an outcome
+-- count_of_outcomes_of_id: how many items of an exchange's id have such an outcome
 -- latest_request_of: the request of an exchange
 -- item_overtakes_key: an item that overtakes what is on its way for a key
 -- invalidates_response: one that invalidates what is held for it
@@ -10,7 +10,7 @@ use Rattle.std.specs.Prelude.{Option, Some, None, is_none, cond, option_map}
 use Rattle.hx_fields.specs.Line.{Field}
 use Rattle.hx_allow.specs.TableLines.{Table}
 use Rattle.hx_store.specs.Stored.{Stored}
-use Rattle.hx_store.specs.Shelf.{find_entry}
+use Rattle.hx_store.specs.Shelf.{find_entry_of_serial}
 use Rattle.hx_framing.specs.declared.messages.Response.{Response}
 use Rattle.hx_target.specs.declared.keys.Key.{Key}
 use Rattle.hx_hop.specs.declared.request_view.Asked.{Asked}
@@ -20,7 +20,7 @@ use Rattle.proxy_core.specs.declared.event.Event.{Event}
 use Rattle.proxy_core.specs.declared.event.Event.TheVariants.{Arrive, Answer, Fail, Wake, Abandon, Overdue}
 use Rattle.proxy_core.specs.Storing.{status_invalidates}
 use Rattle.proxy_core.specs.Outcomes.{exchange_id_of_event}
-use Rattle.hx_allow.specs.PurgeModes.{purge_mode_or_remove}
+use Rattle.hx_allow.specs.PurgeModes.{request_purge_mode_or_remove}
 use Rattle.proxy_core.specs.Scopes.{Scope, key_is_in_scope, scope_includes_response, scope_if_removing}
 use Rattle.proxy_core.specs.Scopes.{scope_of_target_alone}
 use Rattle.proxy_core.specs.State.{serial_stored_by_outcome, serial_used_by_outcome, scope_purged}
@@ -59,17 +59,17 @@ is_arrival_event (Abandon id) = false
 is_arrival_event (Overdue id) = false
 
 -- how many of these items are of this id and have such an outcome
-abbrev pub count_of_outcomes : (Outcome → Bool) → ℕ → List Item → ℕ
-count_of_outcomes p id [] = 0
-count_of_outcomes p id (i ∷ items)
-    = cond (exchange_id_of_event i.event == id && p i.outcome) (count_of_outcomes p id items + 1)
-    (count_of_outcomes p id items)
+abbrev pub count_of_outcomes_of_id : (Outcome → Bool) → ℕ → List Item → ℕ
+count_of_outcomes_of_id p id [] = 0
+count_of_outcomes_of_id p id (i ∷ items)
+    = cond (exchange_id_of_event i.event == id && p i.outcome) (count_of_outcomes_of_id p id items + 1)
+    (count_of_outcomes_of_id p id items)
 
 -- no request of this id arrives
-abbrev pub NoRequestArrives : ℕ → List Item → Type 0
-NoRequestArrives id [] = Unit {0}
-NoRequestArrives id (i ∷ items) = ((exchange_id_of_event i.event == id && is_arrival_event i.event) ≡ false)
-    × NoRequestArrives id items
+abbrev pub NoRequestOfIdArrives : ℕ → List Item → Type 0
+NoRequestOfIdArrives id [] = Unit {0}
+NoRequestOfIdArrives id (i ∷ items) = ((exchange_id_of_event i.event == id && is_arrival_event i.event) ≡ false)
+    × NoRequestOfIdArrives id items
 
 -- An exchange has the items of its id from its arrival up to the next arrival of that id: at most
 -- two of them go forward, and at most one is a reply.
@@ -78,22 +78,22 @@ TwiceForwardOneReply trace =
     (later items before : List Item) (arrival : Item) →
     later ++ (items ++ arrival ∷ before) ≡ trace →
     is_arrival_event arrival.event ≡ true →
-    NoRequestArrives (exchange_id_of_event arrival.event) items →
-    (count_of_outcomes outcome_goes_forward (exchange_id_of_event arrival.event) (items ++ arrival ∷ []) ≤ 2)
-    × (count_of_outcomes outcome_is_reply (exchange_id_of_event arrival.event) (items ++ arrival ∷ []) ≤ 1)
+    NoRequestOfIdArrives (exchange_id_of_event arrival.event) items →
+    (count_of_outcomes_of_id outcome_goes_forward (exchange_id_of_event arrival.event) (items ++ arrival ∷ []) ≤ 2)
+    × (count_of_outcomes_of_id outcome_is_reply (exchange_id_of_event arrival.event) (items ++ arrival ∷ []) ≤ 1)
 
 -- the request of the exchange of this id: that of the latest arrival
-abbrev pub request_after_event : ℕ → Event → Option Asked → Option Asked
-request_after_event id (Arrive now i asked) before = cond (i == id) (Some asked) before
-request_after_event id (Answer now i r) before = before
-request_after_event id (Fail now i kind) before = before
-request_after_event id (Wake now i) before = before
-request_after_event id (Abandon i) before = before
-request_after_event id (Overdue i) before = before
+abbrev pub latest_request_after_event : ℕ → Event → Option Asked → Option Asked
+latest_request_after_event id (Arrive now i asked) before = cond (i == id) (Some asked) before
+latest_request_after_event id (Answer now i r) before = before
+latest_request_after_event id (Fail now i kind) before = before
+latest_request_after_event id (Wake now i) before = before
+latest_request_after_event id (Abandon i) before = before
+latest_request_after_event id (Overdue i) before = before
 
 abbrev pub latest_request_of : ℕ → List Item → Option Asked
 latest_request_of id [] = None
-latest_request_of id (i ∷ past) = request_after_event id i.event (latest_request_of id past)
+latest_request_of id (i ∷ past) = latest_request_after_event id i.event (latest_request_of id past)
 
 -- the client gets what no store held
 abbrev pub reply_uses_no_stored_response : Outcome → Bool
@@ -123,20 +123,21 @@ scope_overtaken_by_event asked (Overdue id) outcome = None
 
 -- Of that it invalidates what it is to remove.
 -- own: a purge that expires removes nothing ("A purge that expires")
-abbrev pub scope_invalidated_of : Event → Option Scope → Option Scope
-scope_invalidated_of (Arrive now id asked) scope = scope_if_removing (purge_mode_or_remove asked.fields) scope
-scope_invalidated_of (Answer now id r) scope = scope
-scope_invalidated_of (Fail now id kind) scope = scope
-scope_invalidated_of (Wake now id) scope = scope
-scope_invalidated_of (Abandon id) scope = scope
-scope_invalidated_of (Overdue id) scope = scope
+abbrev pub invalidated_part_of_scope : Event → Option Scope → Option Scope
+invalidated_part_of_scope (Arrive now id asked) scope =
+    scope_if_removing (request_purge_mode_or_remove asked.fields) scope
+invalidated_part_of_scope (Answer now id r) scope = scope
+invalidated_part_of_scope (Fail now id kind) scope = scope
+invalidated_part_of_scope (Wake now id) scope = scope
+invalidated_part_of_scope (Abandon id) scope = scope
+invalidated_part_of_scope (Overdue id) scope = scope
 
 -- What an event with its outcome invalidates: the target of an exchange with this request.
 -- own: a request that purges invalidates what is within its scope, of that with a tag what names the tag, unless it
 -- says that it stays ("A purge has a key")
 abbrev pub scope_invalidated_by_event : Option Asked → Event → Outcome → Option Scope
 scope_invalidated_by_event asked event outcome =
-    scope_invalidated_of event (scope_overtaken_by_event asked event outcome)
+    invalidated_part_of_scope event (scope_overtaken_by_event asked event outcome)
 
 abbrev pub is_overtaken_key : Option Scope → Key → Bool
 is_overtaken_key None key = false
@@ -189,7 +190,7 @@ NothingInvalidatedIsSent table start trace =
     serial_stored_by_outcome storing.outcome ≡ Some s →
     outcome_goes_forward f.outcome ≡ true →
     exchange_id_of_event f.event ≡ exchange_id_of_event storing.event →
-    count_of_outcomes outcome_goes_forward (exchange_id_of_event storing.event) between ≡ 0 →
+    count_of_outcomes_of_id outcome_goes_forward (exchange_id_of_event storing.event) between ≡ 0 →
     latest_request_of (exchange_id_of_event storing.event) (f ∷ before) ≡ Some asked →
     NoItemInvalidatesResponse table start s asked.target.key middle (storing ∷ (between ++ f ∷ before))
     × NoItemOvertakesKey asked.target.key (storing ∷ between) (f ∷ before)
@@ -199,4 +200,5 @@ abbrev pub NothingInvalidatedSinceTheStartIsSent : Table → StoreAtStart → Li
 NothingInvalidatedSinceTheStartIsSent table start trace =
     (later before : List Item) (sending : Item) (s : ℕ) (response : Stored) →
     later ++ sending ∷ before ≡ trace → serial_used_by_outcome sending.outcome ≡ Some s →
-    find_entry s start.entries ≡ Some response → NoItemInvalidatesResponse table start s response.key before []
+    find_entry_of_serial s start.entries ≡ Some response
+    → NoItemInvalidatesResponse table start s response.key before []

@@ -16,7 +16,7 @@ use Rattle.hx_age.specs.Age.{times_of_message, age_of, ttl_of}
 use Rattle.hx_hop.specs.Answering.{answered_of}
 use Rattle.hx_hop.specs.declared.request_view.Asked.{Asked}
 use Rattle.hx_policy.specs.declared.words.Policy.{Policy}
-use Rattle.hx_allow.specs.declared.verdicts.RequestRoute.{RequestRoute}
+use Rattle.hx_allow.specs.declared.verdicts.RouteOverLine.{RouteOverLine}
 use Rattle.hx_store.specs.Stored.{Stored}
 use Rattle.hx_reuse.specs.Conditions.{withholds_conditions}
 use Rattle.hx_reuse.specs.Lifetimes.{lifetime_of_stored_response, lifetime_under_policy}
@@ -26,7 +26,7 @@ use Rattle.hx_validate.specs.Ranges.{response_as_range_or_whole}
 use Rattle.hx_validate.specs.Room.{head_leaves_room}
 use Rattle.hx_validate.specs.declared.ranges.RangeAnswer.{RangeAnswer}
 use Rattle.hx_validate.specs.declared.ranges.RangeAnswer.TheVariants.{Whole, Part, Unsatisfiable}
-use Rattle.hx_validate.specs.NotModified.{stored_gets_304, fields_of_304, answer_gets_304, fields_of_304_to_answer}
+use Rattle.hx_validate.specs.NotModified.{stored_gets_304, fields_of_304, answer_gets_304, fields_of_304_from_answer}
 use Rattle.hx_storable.specs.declared.rule.StoreRule.{StoreRule}
 use Rattle.hx_status.specs.Member.{member_text}
 use Rattle.hx_status.specs.Refusals.{refusal_status, refusal_text}
@@ -36,8 +36,8 @@ use Rattle.hx_status.specs.declared.status.Detail.{Detail}
 use Rattle.hx_status.specs.declared.status.Detail.TheVariants.{SessionCookie}
 use Rattle.hx_status.specs.declared.cause.Cause.{Cause}
 use Rattle.proxy_core.specs.declared.open.exchange.Exchange.{Exchange}
-use Rattle.proxy_core.specs.declared.replies.stored_reply.CacheStatusInfo.{CacheStatusInfo}
-use Rattle.proxy_core.specs.Validating.{without_cookies}
+use Rattle.proxy_core.specs.declared.replies.stored_reply.StoredCacheStatusInfo.{StoredCacheStatusInfo}
+use Rattle.proxy_core.specs.Validating.{without_set_cookie_if}
 
 abbrev pub line : List ℕ → List ℕ → Field
 line name value = record { name = name; value = value }
@@ -59,7 +59,7 @@ abbrev pub fwd_status_of : Option ℕ → ℕ → Option ℕ
 fwd_status_of None sent = None
 fwd_status_of (Some came) sent = cond (came == sent) None (Some came)
 
-abbrev pub cache_status_of_sent : ℕ → Stored → ℕ → CacheStatusInfo → Status
+abbrev pub cache_status_of_sent : ℕ → Stored → ℕ → StoredCacheStatusInfo → Status
 cache_status_of_sent status e now info = record {
   how = info.how;
   fwd_status = fwd_status_of info.came status;
@@ -75,13 +75,13 @@ abbrev pub fields_without_hidden_tags : Bool → List Field → List Field
 fields_without_hidden_tags hides fields = cond hides (without_named fields (codes "Cache-Tag")) fields
 
 -- with this status: these lines, then Age (RFC 9111, section 5.1) and Cache-Status
-abbrev pub fields_with_age_and_status : List ℕ → ℕ → List Field → Stored → ℕ → CacheStatusInfo → List Field
+abbrev pub fields_with_age_and_status : List ℕ → ℕ → List Field → Stored → ℕ → StoredCacheStatusInfo → List Field
 fields_with_age_and_status name status fields e now info =
     (fields ++ line (codes "Age") (decimal (age_of e.times now)) ∷ [])
     ++ line (codes "Cache-Status") (member_text name (cache_status_of_sent status e now info)) ∷ []
 
 -- these of the stored lines, without tags where those are hidden, and both
-abbrev pub fields_of_sent_response : List ℕ → ℕ → List Field → Stored → ℕ → CacheStatusInfo → List Field
+abbrev pub fields_of_sent_response : List ℕ → ℕ → List Field → Stored → ℕ → StoredCacheStatusInfo → List Field
 fields_of_sent_response name status fields e now info =
     fields_with_age_and_status name status (fields_without_hidden_tags info.policy.hides_tags fields) e now info
 
@@ -92,38 +92,39 @@ length_unless_forbidden status length = cond ((status == 204) || (status == 304)
 -- a stored response is sent whole
 -- own: over a line that removes cookies without those, whatever line it was stored over ("A cookie stays with the one
 -- whom it was set for")
-abbrev pub whole_stored_text : List ℕ → Stored → ℕ → CacheStatusInfo → Asked → List ℕ
+abbrev pub whole_stored_text : List ℕ → Stored → ℕ → StoredCacheStatusInfo → Asked → List ℕ
 whole_stored_text name e now info asked =
     response_text e.status
-    (fields_of_sent_response name e.status (without_cookies info.policy.removes_cookies e.fields) e now info)
+    (fields_of_sent_response name e.status (without_set_cookie_if info.policy.removes_set_cookie e.fields) e now info)
     (length_unless_forbidden e.status (Some (length e.content))) asked.close
     (content_unless_head (is_head asked) e.content)
 
 -- the client has it already (RFC 9110, section 15.4.5); a 304 carries few lines, and no tags
-abbrev pub not_modified_text : List ℕ → Stored → ℕ → CacheStatusInfo → Asked → List ℕ
+abbrev pub not_modified_text : List ℕ → Stored → ℕ → StoredCacheStatusInfo → Asked → List ℕ
 not_modified_text name e now info asked =
     response_text 304 (fields_with_age_and_status name 304 (fields_of_304 e.fields) e now info) None asked.close []
 
 -- the form in which a stored response is sent: over a line that doesn't forward ranges the part of it that the request
 -- asks for, or that none is there (RFC 9110, sections 14.2, 15.3.7 and 15.5.17)
-abbrev pub stored_response_as_sent : Policy → Asked → Stored → Stored
-stored_response_as_sent policy asked e = cond policy.forwards_ranges e (response_as_range_or_whole asked e)
+abbrev pub stored_response_cut_to_range : Policy → Asked → Stored → Stored
+stored_response_cut_to_range policy asked e = cond policy.forwards_ranges e (response_as_range_or_whole asked e)
 
 -- a stored response is sent in a form: of that are the status, the lines and the content
 -- own: over a line that removes cookies without those, whatever line it was stored over ("A cookie stays with the one
 -- whom it was set for")
-abbrev pub text_of_stored_in_form : List ℕ → Stored → Stored → ℕ → CacheStatusInfo → Asked → List ℕ
-text_of_stored_in_form name form e now info asked =
+abbrev pub text_of_stored_sent_as : List ℕ → Stored → Stored → ℕ → StoredCacheStatusInfo → Asked → List ℕ
+text_of_stored_sent_as name form e now info asked =
     response_text form.status
-    (fields_of_sent_response name form.status (without_cookies info.policy.removes_cookies form.fields) e now info)
+    (fields_of_sent_response name form.status
+    (without_set_cookie_if info.policy.removes_set_cookie form.fields) e now info)
     (length_unless_forbidden form.status (Some (length form.content))) asked.close
     (content_unless_head (is_head asked) form.content)
 
 -- A stored response is sent: the client's own conditions come first, then its range (RFC 9110, section 13.2.2).
-abbrev pub stored_reply_text : List ℕ → Stored → ℕ → CacheStatusInfo → Asked → List ℕ
+abbrev pub stored_reply_text : List ℕ → Stored → ℕ → StoredCacheStatusInfo → Asked → List ℕ
 stored_reply_text name e now info asked =
     cond (stored_gets_304 asked e) (not_modified_text name e now info asked)
-    (text_of_stored_in_form name (stored_response_as_sent info.policy asked e) e now info asked)
+    (text_of_stored_sent_as name (stored_response_cut_to_range info.policy asked e) e now info asked)
 
 -- to HEAD an answer of the origin has the length that it announced
 abbrev pub length_of_passed_answer : Bool → Response → Option ℕ
@@ -135,7 +136,7 @@ ttl_of_passed_answer policy x status fields now true =
     Some (ttl_of (lifetime_under_policy policy status fields) (age_of (times_of_message fields x.request_time now) now))
 
 -- past the store the word of the operator's rule is that of the cookies (RFC 9211, section 2.8)
-abbrev pub detail_of_bypassed_store : RequestRoute → Option Detail
+abbrev pub detail_of_bypassed_store : RouteOverLine → Option Detail
 detail_of_bypassed_store route = cond route.past_store (Some SessionCookie) None
 
 -- and where the line tells it the first storing rule against the answer
@@ -184,7 +185,7 @@ fields_in_place_of_answer policy name x status fields now stored rule own =
 -- so a 304 is sent (RFC 9110, section 15.4.5)
 abbrev pub fields_of_304_sent : Policy → List ℕ → Exchange → ℕ → List Field → ℕ → Bool → Option StoreRule → List Field
 fields_of_304_sent policy name x status fields now stored rule =
-    fields_in_place_of_answer policy name x status fields now stored rule (fields_of_304_to_answer fields)
+    fields_in_place_of_answer policy name x status fields now stored rule (fields_of_304_from_answer fields)
 
 abbrev pub not_modified_answer_text : Policy → List ℕ → Exchange → Response → ℕ → Bool → Option StoreRule → List ℕ
 not_modified_answer_text policy name x r now stored rule =
@@ -194,8 +195,8 @@ not_modified_answer_text policy name x r now stored rule =
 -- What of an answer is sent to a request whose range stayed with the proxy: the part that it asks for of this answer,
 -- which If-Range has to name, or that none of its bytes is there (RFC 9110, sections 13.1.5 and 14.2). Each other
 -- request is sent the whole.
-abbrev pub range_of_answer : Policy → Exchange → Response → ℕ → RangeAnswer
-range_of_answer policy x r now =
+abbrev pub part_of_answer_to_send : Policy → Exchange → Response → ℕ → RangeAnswer
+part_of_answer_to_send policy x r now =
     cond (fetches_whole_for_range policy x.asked)
     (range_answer_of x.asked r.status (times_of_message (answered_of r now).fields x.request_time now).date
     (answered_of r now).fields (length r.content)) Whole
@@ -216,14 +217,15 @@ text_in_place_of_answer policy name x r now stored rule status own content =
     (Some (length content)) x.asked.close (content_unless_head (is_head x.asked) content)
 
 -- own: where the head leaves no room for the line that tells the part the whole is sent, as out of the store
-abbrev pub answer_in_range_text : Policy → List ℕ → Exchange → Response → ℕ → Bool → Option StoreRule → RangeAnswer
+abbrev pub text_of_answer_or_its_range : Policy → List ℕ → Exchange → Response → ℕ → Bool → Option StoreRule
+    → RangeAnswer
     → List ℕ
-answer_in_range_text policy name x r now stored rule Whole = whole_answer_text policy name x r now stored rule
-answer_in_range_text policy name x r now stored rule (Part first last) =
+text_of_answer_or_its_range policy name x r now stored rule Whole = whole_answer_text policy name x r now stored rule
+text_of_answer_or_its_range policy name x r now stored rule (Part first last) =
     cond (head_leaves_room (fields_of_partial_answer r now first last))
     (text_in_place_of_answer policy name x r now stored rule 206 (fields_of_partial_answer r now first last)
     (slice_range r.content first (last + 1))) (whole_answer_text policy name x r now stored rule)
-answer_in_range_text policy name x r now stored rule Unsatisfiable =
+text_of_answer_or_its_range policy name x r now stored rule Unsatisfiable =
     cond (head_leaves_room (fields_of_answer_416 r now))
     (text_in_place_of_answer policy name x r now stored rule 416 (fields_of_answer_416 r now) [])
     (whole_answer_text policy name x r now stored rule)
@@ -233,7 +235,7 @@ answer_in_range_text policy name x r now stored rule Unsatisfiable =
 abbrev pub passed_answer_text : Policy → List ℕ → Exchange → Response → ℕ → Bool → Option StoreRule → List ℕ
 passed_answer_text policy name x r now stored rule =
     cond (client_wants_304_for_answer policy x r now) (not_modified_answer_text policy name x r now stored rule)
-    (answer_in_range_text policy name x r now stored rule (range_of_answer policy x r now))
+    (text_of_answer_or_its_range policy name x r now stored rule (part_of_answer_to_send policy x r now))
 
 abbrev pub fields_of_refusal : List ℕ → List ℕ → List Field
 fields_of_refusal date text = line (codes "Date") date ∷ line (codes "Content-Type") (codes "text/plain") ∷ line

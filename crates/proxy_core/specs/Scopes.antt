@@ -4,15 +4,15 @@
 -- key_is_in_scope: a key is within a scope        scope_includes_response: so is what is held for it, with these lines
 -- scope_of_target_alone, scope_of_purge: the scopes of an answer and of a purge
 -- serials_within_scope: what is held within a scope         serials_purged_by_request: that of a request that purges
--- serials_to_remove, serials_to_expire: what of it goes, and what stays and is expired
+-- serials_purge_removes, serials_purge_expires: what of it goes, and what stays and is expired
 -- scope_if_removing: a scope whose purge removes
 use Rattle.std.specs.Prelude.{ℕ, Bool, ◌&&◌, List, [], Option, None, Some}
 use Rattle.hx_fields.specs.Line.{Field}
 use Rattle.hx_target.specs.declared.keys.Key.{Key}
 use Rattle.hx_hop.specs.declared.request_view.Asked.{Asked}
-use Rattle.hx_allow.specs.PurgeModes.{purge_mode_or_remove}
-use Rattle.hx_allow.specs.Purges.{is_in_purge_scope, purge_scope_or_target}
-use Rattle.hx_allow.specs.Tags.{is_purged_by_tag, purge_tag_or_none}
+use Rattle.hx_allow.specs.PurgeModes.{request_purge_mode_or_remove}
+use Rattle.hx_allow.specs.Purges.{is_in_purge_scope, purge_scope_of_request}
+use Rattle.hx_allow.specs.Tags.{is_purged_by_tag_if_any, purge_tag_or_none}
 use Rattle.hx_allow.specs.declared.purge_modes.PurgeMode.{PurgeMode}
 use Rattle.hx_allow.specs.declared.purge_modes.PurgeMode.TheVariants.{Remove, Stale}
 use Rattle.hx_allow.specs.declared.purges.PurgeScope.{PurgeScope}
@@ -32,7 +32,7 @@ key_is_in_scope scope key = is_in_purge_scope scope.reach scope.asked key
 
 -- what is held for a key, with these lines: by both
 abbrev pub scope_includes_response : Scope → Key → List Field → Bool
-scope_includes_response scope key fields = is_purged_by_tag scope.tag fields && key_is_in_scope scope key
+scope_includes_response scope key fields = is_purged_by_tag_if_any scope.tag fields && key_is_in_scope scope key
 
 -- one without a tag
 abbrev pub scope_without_tag : PurgeScope → Key → Scope
@@ -45,7 +45,7 @@ scope_of_target_alone key = scope_without_tag Target key
 -- own: that of a request that purges ("A purge has a key")
 abbrev pub scope_of_purge : Asked → Scope
 scope_of_purge asked = record {
-  reach = purge_scope_or_target asked.fields;
+  reach = purge_scope_of_request asked.fields;
   asked = asked.target.key;
   tag = purge_tag_or_none asked.fields;
 }
@@ -70,13 +70,13 @@ abbrev pub serials_expired_in_mode : PurgeMode → List ℕ → Option (List ℕ
 serials_expired_in_mode Remove taken = None
 serials_expired_in_mode Stale taken = Some taken
 
-abbrev pub serials_to_remove : Asked → List Stored → List ℕ
-serials_to_remove asked es =
-    serials_removed_in_mode (purge_mode_or_remove asked.fields) (serials_purged_by_request asked es)
+abbrev pub serials_purge_removes : Asked → List Stored → List ℕ
+serials_purge_removes asked es =
+    serials_removed_in_mode (request_purge_mode_or_remove asked.fields) (serials_purged_by_request asked es)
 
-abbrev pub serials_to_expire : Asked → List Stored → Option (List ℕ)
-serials_to_expire asked es =
-    serials_expired_in_mode (purge_mode_or_remove asked.fields) (serials_purged_by_request asked es)
+abbrev pub serials_purge_expires : Asked → List Stored → Option (List ℕ)
+serials_purge_expires asked es =
+    serials_expired_in_mode (request_purge_mode_or_remove asked.fields) (serials_purged_by_request asked es)
 
 -- the scope of a purge, if it removes what is held within it
 abbrev pub scope_if_removing : PurgeMode → Option Scope → Option Scope

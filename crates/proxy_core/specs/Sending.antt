@@ -3,11 +3,11 @@
 --
 -- ResponseMayBeReused of hx_reuse: what RFC 9111 lets be sent
 -- StoredMayBeSentInsteadOfError: what RFC 5861 lets be sent in place of an error
--- StoredResponseMayBeSentAt: what may be sent at an event
+-- StoredResponseMayBeSentAtEvent: what may be sent at an event
 -- MayBeSentWhileLeaderRevalidates, StoredMayBeSentWhileRevalidating: what RFC 5861 lets be sent while one asks the
 -- origin about it
 -- StoredResponseMayBeSent: either
--- ReplyIsTheStoredResponse: what is sent is that response
+-- ReplySendsTheStoredResponse: what is sent is that response
 -- RequestGoesForward, RequestWaitsForFirstLeader: the two ways to an origin's answer
 -- RequestReachesCacheOrOrigin, RequestIsRefusedByTheTable: what becomes of a request that is allowed, and of one that
 -- isn't
@@ -22,9 +22,9 @@ use Rattle.hx_allow.specs.Matching.{policy_of}
 use Rattle.proxy_core.specs.Allowing.{verdict_of_asked, request_purges, exchanges_to_wait_for}
 use Rattle.hx_allow.specs.declared.verdicts.Verdict.TheVariants.{Allowed, DeniedBy, NoLine as Unmatched}
 use Rattle.hx_allow.specs.declared.verdicts.Verdict.TheVariants as verdict
-use Rattle.hx_allow.specs.declared.verdicts.RequestRoute.{RequestRoute}
+use Rattle.hx_allow.specs.declared.verdicts.RouteOverLine.{RouteOverLine}
 use Rattle.hx_store.specs.Stored.{Stored}
-use Rattle.hx_store.specs.Shelf.{find_entry}
+use Rattle.hx_store.specs.Shelf.{find_entry_of_serial}
 use Rattle.hx_reuse.specs.Rules.{reuse_rule_applies, is_rule_on_chosen}
 use Rattle.hx_reuse.specs.ChosenAndNamed.{ResponseIsChosen, IsLeastReuseRule, RuleOnChosenNamesItsSerial}
 use Rattle.hx_reuse.specs.Reusable.{ResponseMayBeReused}
@@ -36,23 +36,24 @@ use Rattle.hx_status.specs.declared.status.Detail.{Detail}
 use Rattle.hx_status.specs.declared.status.Detail.TheVariants.{StaleIfError, ReuseAfterError, ReuseAfter304}
 use Rattle.hx_status.specs.declared.status.Detail.TheVariants.{StaleWhileRevalidate}
 use Rattle.proxy_core.specs.declared.open.exchange.Exchange.{Exchange}
-use Rattle.proxy_core.specs.declared.replies.stored_reply.CacheStatusInfo.{CacheStatusInfo}
+use Rattle.proxy_core.specs.declared.replies.stored_reply.StoredCacheStatusInfo.{StoredCacheStatusInfo}
 use Rattle.proxy_core.specs.declared.outcome.Reply.{Reply}
 use Rattle.proxy_core.specs.declared.outcome.Outcome.{Outcome}
 use Rattle.proxy_core.specs.declared.outcome.Outcome.TheVariants.{Reply as ReplyData, Forward, Waits}
 use Rattle.proxy_core.specs.declared.event.Event.{Event}
 use Rattle.proxy_core.specs.declared.event.Event.TheVariants.{Arrive, Answer, Fail, Wake, Abandon, Overdue}
 use Rattle.proxy_core.specs.Storing.{is_304_without_condition}
-use Rattle.proxy_core.specs.Validating.{condition_about_serial, is_304_to_own_conditions, stored_response_validated}
+use Rattle.proxy_core.specs.Validating.{condition_to_revalidate_serial, is_304_to_own_conditions}
+use Rattle.proxy_core.specs.Validating.{stored_response_validated_by_304}
 use Rattle.proxy_core.specs.Replies.{stored_reply_text}
-use Rattle.proxy_core.specs.Outcomes.{find_exchange, exchange_id_of_event, is_only_if_cached, is_error_status}
+use Rattle.proxy_core.specs.Outcomes.{find_exchange, exchange_id_of_event, is_only_if_cached, is_stale_if_error_status}
 use Rattle.proxy_core.specs.Outcomes.{outcome_of_refusal, outcome_of_purge, forward_text}
-use Rattle.proxy_core.specs.Outcomes.{hit_status_info, forwarded_status_info, collapsed_status_info}
+use Rattle.proxy_core.specs.Outcomes.{hit_status_info, sent_after_forward_status_info, collapsed_status_info}
 use Rattle.proxy_core.specs.declared.open.awaited.Awaited.{Awaited}
 use Rattle.proxy_core.specs.declared.open.awaited.Awaited.TheVariants.{Expired}
 use Rattle.proxy_core.specs.Leading.{NoExchangeIsLeaderForRequest, IsFirstLeader}
 use Rattle.proxy_core.specs.Awaiting.{RequestMayAwaitAnother}
-use Rattle.proxy_core.specs.State.{serial_used_by_outcome, stored_response_as_used}
+use Rattle.proxy_core.specs.State.{serial_used_by_outcome, stored_response_freshened_by_event}
 use Rattle.proxy_core.specs.Starts.{StoreAtStart}
 use Rattle.proxy_core.specs.Traces.{Item}
 use Rattle.proxy_core.specs.Histories.{held_entries, open_exchanges, IsGoodHistory}
@@ -83,27 +84,27 @@ MayBeSentAsFallback policy held asked now s =
 -- that the table allows; at a 304 to the proxy's conditions, the one that it answers, or where it
 -- answers none one that may be sent anyway; at a 304 that nobody asked for, a 500, 502, 503 or 504,
 -- and at a failure; and to a request that waited, when it is woken.
-abbrev pub StoredResponseMayBeSentAt : Table → List Stored → Option Exchange → Event → ℕ → Type 0
-StoredResponseMayBeSentAt table held x (Arrive now id asked) s =
-    (line : RequestRoute) × (verdict_of_asked table asked ≡ Allowed line)
+abbrev pub StoredResponseMayBeSentAtEvent : Table → List Stored → Option Exchange → Event → ℕ → Type 0
+StoredResponseMayBeSentAtEvent table held x (Arrive now id asked) s =
+    (line : RouteOverLine) × (verdict_of_asked table asked ≡ Allowed line)
     × StoredResponseIsReusable (policy_of table.lines line) held asked now s
-StoredResponseMayBeSentAt table held (Some x) (Answer now id r) s =
+StoredResponseMayBeSentAtEvent table held (Some x) (Answer now id r) s =
     ((is_304_to_own_conditions x r ≡ true)
-    × ((e : Stored) × (stored_response_validated held x r now ≡ Some e) × (e.serial ≡ s)))
-    ⊎ (((is_304_to_own_conditions x r ≡ true) × (stored_response_validated held x r now ≡ None)
+    × ((e : Stored) × (stored_response_validated_by_304 held x r now ≡ Some e) × (e.serial ≡ s)))
+    ⊎ (((is_304_to_own_conditions x r ≡ true) × (stored_response_validated_by_304 held x r now ≡ None)
     × StoredResponseIsReusable (policy_of table.lines x.line) held x.asked now s)
     ⊎ ((is_304_to_own_conditions x r ≡ false)
-    × ((is_304_without_condition (policy_of table.lines x.line) x.asked r || is_error_status r.status) ≡ true)
+    × ((is_304_without_condition (policy_of table.lines x.line) x.asked r || is_stale_if_error_status r.status) ≡ true)
     × MayBeSentAsFallback (policy_of table.lines x.line) held x.asked now s))
-StoredResponseMayBeSentAt table held (Some x) (Fail now id kind) s = MayBeSentAsFallback
+StoredResponseMayBeSentAtEvent table held (Some x) (Fail now id kind) s = MayBeSentAsFallback
     (policy_of table.lines x.line) held x.asked now s
-StoredResponseMayBeSentAt table held (Some x) (Wake now id) s = StoredResponseIsReusable
+StoredResponseMayBeSentAtEvent table held (Some x) (Wake now id) s = StoredResponseIsReusable
     (policy_of table.lines x.line) held x.asked now s
-StoredResponseMayBeSentAt table held None (Answer now id r) s = ⊥
-StoredResponseMayBeSentAt table held None (Fail now id kind) s = ⊥
-StoredResponseMayBeSentAt table held None (Wake now id) s = ⊥
-StoredResponseMayBeSentAt table held x (Abandon id) s = ⊥
-StoredResponseMayBeSentAt table held x (Overdue id) s = ⊥
+StoredResponseMayBeSentAtEvent table held None (Answer now id r) s = ⊥
+StoredResponseMayBeSentAtEvent table held None (Fail now id kind) s = ⊥
+StoredResponseMayBeSentAtEvent table held None (Wake now id) s = ⊥
+StoredResponseMayBeSentAtEvent table held x (Abandon id) s = ⊥
+StoredResponseMayBeSentAtEvent table held x (Overdue id) s = ⊥
 
 -- While one asks the origin about it (RFC 5861, section 3): a GET that takes an answer of the origin could wait for the
 -- first to arrive of those that went there for the response of this serial, which is the chosen one, and over, and may
@@ -122,7 +123,7 @@ pub record MayBeSentWhileLeaderRevalidates (policy : Policy) (held : List Stored
 -- so at an arrival that the table allows, where these are open
 abbrev pub StoredMayBeSentWhileRevalidating : Table → List Stored → List Exchange → Event → ℕ → Type 0
 StoredMayBeSentWhileRevalidating table held xs (Arrive now id asked) s =
-    (line : RequestRoute)
+    (line : RouteOverLine)
     × (verdict_of_asked table asked ≡ Allowed line)
     × MayBeSentWhileLeaderRevalidates (policy_of table.lines line) held
     (exchanges_to_wait_for table line asked xs) asked now s
@@ -134,23 +135,23 @@ StoredMayBeSentWhileRevalidating table held xs (Overdue id) s = ⊥
 
 abbrev pub StoredResponseMayBeSent : Table → List Stored → List Exchange → Option Exchange → Event → ℕ → Type 0
 StoredResponseMayBeSent table held xs x event s =
-    StoredResponseMayBeSentAt table held x event s ⊎ StoredMayBeSentWhileRevalidating table held xs event s
+    StoredResponseMayBeSentAtEvent table held x event s ⊎ StoredMayBeSentWhileRevalidating table held xs event s
 
 -- ---- an item
 
 -- By the least rule against a stored response a request goes to the origin of a line: its own text,
 -- with conditions where the rule is on a response that has a validator, about that one (RFC 9111,
 -- section 4.3.1).
-pub record RequestGoesForward (table : Table) (held : List Stored) (asked : Asked) (now : ℕ) (line : RequestRoute)
+pub record RequestGoesForward (table : Table) (held : List Stored) (asked : Asked) (now : ℕ) (line : RouteOverLine)
     (rule : ReuseRule) (outcome : Outcome) : Type 0 where
   pub is_least : IsLeastReuseRule (policy_of table.lines line) held asked now rule
   pub against : Option ℕ
   pub names : RuleOnChosenNamesItsSerial held asked rule against
-  pub outcome_is : outcome ≡ Forward line (forward_text table line asked (condition_about_serial held against))
+  pub outcome_is : outcome ≡ Forward line (forward_text table line asked (condition_to_revalidate_serial held against))
 
 -- no exchange at the origin has asked for what the request could be sent of the answer to another
-abbrev pub NoLeaderIsOpen : Policy → List Stored → List Exchange → Asked → ℕ → Type 0
-NoLeaderIsOpen policy held xs asked now =
+abbrev pub NoLeaderForRequestIsOpen : Policy → List Stored → List Exchange → Asked → ℕ → Type 0
+NoLeaderForRequestIsOpen policy held xs asked now =
     (awaited : Awaited)
     → RequestMayAwaitAnother policy held asked now awaited → NoExchangeIsLeaderForRequest policy awaited asked xs
 
@@ -160,7 +161,7 @@ NoLeaderIsOpen policy held xs asked now =
 -- collapsed requests).
 pub record RequestWaitsForFirstLeader (table : Table) (held : List Stored) (xs : List Exchange) (now : ℕ)
     (asked : Asked)
-    (line : RequestRoute) (outcome : Outcome) : Type 0 where
+    (line : RouteOverLine) (outcome : Outcome) : Type 0 where
   pub leader : ℕ
   pub is_not_only_if_cached : is_only_if_cached asked ≡ false
   pub awaited : Awaited
@@ -172,13 +173,13 @@ pub record RequestWaitsForFirstLeader (table : Table) (held : List Stored) (xs :
 -- A request that is allowed reaches the cache, which sends a stored response, or the origin of that
 -- line; or it waits for the answer to another request for its target; or it takes no response but a
 -- stored one, and is told the rule against that.
-abbrev pub RequestReachesCacheOrOrigin : Table → List Stored → List Exchange → ℕ → Asked → RequestRoute → Outcome
+abbrev pub RequestReachesCacheOrOrigin : Table → List Stored → List Exchange → ℕ → Asked → RouteOverLine → Outcome
     → Type 0
 RequestReachesCacheOrOrigin table held xs now asked line outcome =
     ((s : ℕ) × (serial_used_by_outcome outcome ≡ Some s))
     ⊎ (((rule : ReuseRule)
     × RequestGoesForward table held asked now line rule outcome × (is_only_if_cached asked ≡ false)
-    × NoLeaderIsOpen (policy_of table.lines line) held (exchanges_to_wait_for table line asked xs) asked now)
+    × NoLeaderForRequestIsOpen (policy_of table.lines line) held (exchanges_to_wait_for table line asked xs) asked now)
     ⊎ (RequestWaitsForFirstLeader table held xs now asked line outcome
     ⊎ ((rule : ReuseRule) × (is_only_if_cached asked ≡ true) × IsLeastReuseRule
     (policy_of table.lines line) held asked now rule
@@ -207,8 +208,8 @@ CacheStatusDetailAfterError policy held asked now s detail =
 -- answered none, or that of an error.
 abbrev pub CacheStatusDetailAtAnswer : Policy → List Stored → Exchange → ℕ → Response → ℕ → Option Detail → Type 0
 CacheStatusDetailAtAnswer policy held x now r s detail =
-    (is_some (stored_response_validated held x r now) ≡ true → detail ≡ None)
-    × (is_304_to_own_conditions x r ≡ true → stored_response_validated held x r now ≡ None
+    (is_some (stored_response_validated_by_304 held x r now) ≡ true → detail ≡ None)
+    × (is_304_to_own_conditions x r ≡ true → stored_response_validated_by_304 held x r now ≡ None
     → detail ≡ Some ReuseAfter304)
     × (is_304_to_own_conditions x r ≡ false → CacheStatusDetailAfterError policy held x.asked now s detail)
 
@@ -221,16 +222,16 @@ CacheStatusDetailAtArrival policy held asked now s detail =
 
 -- what Cache-Status tells of a stored response (RFC 9211): a hit, with a word where it is sent while
 -- one asks the origin about it, or why the request had gone forward, what came, and the word of the step
-abbrev pub CacheStatusIsExact : Table → List Stored → Option Exchange → Event → ℕ → CacheStatusInfo → Type 0
-CacheStatusIsExact table held x (Arrive now id asked) s h = (line : RequestRoute)
+abbrev pub CacheStatusIsExact : Table → List Stored → Option Exchange → Event → ℕ → StoredCacheStatusInfo → Type 0
+CacheStatusIsExact table held x (Arrive now id asked) s h = (line : RouteOverLine)
     × (verdict_of_asked table asked ≡ Allowed line)
     × ((detail : Option Detail) × (h ≡ record (hit_status_info (policy_of table.lines line)) { detail = detail })
     × CacheStatusDetailAtArrival (policy_of table.lines line) held asked now s detail)
 CacheStatusIsExact table held (Some x) (Answer now id r) s h = (detail : Option Detail)
-    × (h ≡ forwarded_status_info (policy_of table.lines x.line) x (Some r.status) detail)
+    × (h ≡ sent_after_forward_status_info (policy_of table.lines x.line) x (Some r.status) detail)
     × CacheStatusDetailAtAnswer (policy_of table.lines x.line) held x now r s detail
 CacheStatusIsExact table held (Some x) (Fail now id kind) s h = (detail : Option Detail)
-    × (h ≡ forwarded_status_info (policy_of table.lines x.line) x None detail)
+    × (h ≡ sent_after_forward_status_info (policy_of table.lines x.line) x None detail)
     × CacheStatusDetailAfterError (policy_of table.lines x.line) held x.asked now s detail
 CacheStatusIsExact table held (Some x) (Wake now id) s h = h ≡ collapsed_status_info (policy_of table.lines x.line) x
 CacheStatusIsExact table held None (Answer now id r) s h = ⊥
@@ -253,32 +254,35 @@ EventHasMomentAndRequest x (Overdue id) now asked = ⊥
 
 -- What is sent is the held response of this serial, freshened where the 304 answers it: its
 -- content, its head, or its 304 to the client's own conditions, by what `stored_reply_text` says.
-pub record ReplyIsTheStoredResponse (table : Table) (held : List Stored) (x : Option Exchange) (event : Event)
+pub record ReplySendsTheStoredResponse (table : Table) (held : List Stored) (x : Option Exchange) (event : Event)
     (outcome : Outcome)
     (s : ℕ) : Type 0 where
   pub response : Stored
-  pub is_held : find_entry s held ≡ Some response
+  pub is_held : find_entry_of_serial s held ≡ Some response
   pub now : ℕ
   pub asked : Asked
   pub about : EventHasMomentAndRequest x event now asked
-  pub info : CacheStatusInfo
+  pub info : StoredCacheStatusInfo
   pub cache_status_matches : CacheStatusIsExact table held x event s info
   pub reply : Reply
   pub outcome_is : outcome ≡ ReplyData reply
-  pub bytes_are : reply.bytes ≡ stored_reply_text table.name (stored_response_as_used x event response) now info asked
+  pub bytes_are : reply.bytes
+      ≡ stored_reply_text table.name (stored_response_freshened_by_event x event response) now info asked
 
 -- ---- the statements
 
 -- A stored response is sent exactly where one is held that may be.
-abbrev pub StoredResponseIsSentWhereItMayBe : Type 0
-StoredResponseIsSentWhereItMayBe = (table : Table) (start : StoreAtStart) (first s : ℕ) (item : Item) (past : List Item)
+abbrev pub StoredResponseIsSentWhereverItMayBe : Type 0
+StoredResponseIsSentWhereverItMayBe = (table : Table) (start : StoreAtStart) (first s : ℕ) (item : Item)
+    (past : List Item)
     → IsGoodHistory table start first (item ∷ past) →
     StoredResponseMayBeSent table (held_entries table start past) (open_exchanges table start past)
     (find_exchange (exchange_id_of_event item.event) (open_exchanges table start past)) item.event s
     → serial_used_by_outcome item.outcome ≡ Some s
 
-abbrev pub StoredResponseIsSentNowhereElse : Type 0
-StoredResponseIsSentNowhereElse = (table : Table) (start : StoreAtStart) (first s : ℕ) (item : Item) (past : List Item)
+abbrev pub StoredResponseIsSentOnlyWhereItMayBe : Type 0
+StoredResponseIsSentOnlyWhereItMayBe = (table : Table) (start : StoreAtStart) (first s : ℕ) (item : Item)
+    (past : List Item)
     → IsGoodHistory table start first (item ∷ past) →
     serial_used_by_outcome item.outcome ≡ Some s
     → StoredResponseMayBeSent table (held_entries table start past) (open_exchanges table start past)
@@ -287,30 +291,30 @@ StoredResponseIsSentNowhereElse = (table : Table) (start : StoreAtStart) (first 
 -- A request that arrives goes to the origin of a line exactly where that is the table's first line
 -- that matches and it allows, a rule stands against a stored response, the request takes others
 -- too, and there is none for whose answer it waits.
-abbrev pub RequestIsForwardedWhereAllowed : Type 0
-RequestIsForwardedWhereAllowed =
-    (table : Table) (start : StoreAtStart) (first now id : ℕ) (line : RequestRoute) (asked : Asked)
+abbrev pub ArrivalIsForwardedWhereverItMayBe : Type 0
+ArrivalIsForwardedWhereverItMayBe =
+    (table : Table) (start : StoreAtStart) (first now id : ℕ) (line : RouteOverLine) (asked : Asked)
     (rule : ReuseRule) (item : Item)
     (past : List Item) →
     IsGoodHistory table start first (item ∷ past) → item.event ≡ Arrive now id asked →
     verdict_of_asked table asked ≡ Allowed line
     → IsLeastReuseRule (policy_of table.lines line) (held_entries table start past) asked now rule
     → is_only_if_cached asked ≡ false →
-    NoLeaderIsOpen (policy_of table.lines line) (held_entries table start past)
+    NoLeaderForRequestIsOpen (policy_of table.lines line) (held_entries table start past)
     (exchanges_to_wait_for table line asked (open_exchanges table start past))
     asked now →
     (bytes : List ℕ) × (item.outcome ≡ Forward line bytes)
 
-abbrev pub RequestIsForwardedNowhereElse : Type 0
-RequestIsForwardedNowhereElse =
-    (table : Table) (start : StoreAtStart) (first now id : ℕ) (line : RequestRoute) (asked : Asked)
+abbrev pub ArrivalIsForwardedOnlyWhereItMayBe : Type 0
+ArrivalIsForwardedOnlyWhereItMayBe =
+    (table : Table) (start : StoreAtStart) (first now id : ℕ) (line : RouteOverLine) (asked : Asked)
     (bytes : List ℕ) (item : Item)
     (past : List Item) →
     IsGoodHistory table start first (item ∷ past) → item.event ≡ Arrive now id asked
     → item.outcome ≡ Forward line bytes →
     (verdict_of_asked table asked ≡ Allowed line)
     × ((rule : ReuseRule) × IsLeastReuseRule (policy_of table.lines line) (held_entries table start past) asked now rule
-    × NoLeaderIsOpen (policy_of table.lines line) (held_entries table start past)
+    × NoLeaderForRequestIsOpen (policy_of table.lines line) (held_entries table start past)
     (exchanges_to_wait_for table line asked (open_exchanges table start past))
     asked now)
     × (is_only_if_cached asked ≡ false)
@@ -319,7 +323,7 @@ RequestIsForwardedNowhereElse =
 -- of that line; or it waits for the answer to another; or it takes no response but a stored one,
 -- and is told the rule against that.
 abbrev pub AllowedRequestReachesCacheOrOrigin : Type 0
-AllowedRequestReachesCacheOrOrigin = (table : Table) (start : StoreAtStart) (first now id : ℕ) (line : RequestRoute)
+AllowedRequestReachesCacheOrOrigin = (table : Table) (start : StoreAtStart) (first now id : ℕ) (line : RouteOverLine)
     (asked : Asked)
     (item : Item)
     (past : List Item) →
@@ -333,7 +337,7 @@ abbrev pub RequestNotAllowedIsRefused : Type 0
 RequestNotAllowedIsRefused = (table : Table) (start : StoreAtStart) (first now id : ℕ) (asked : Asked) (item : Item)
     (past : List Item) →
     IsGoodHistory table start first (item ∷ past) → item.event ≡ Arrive now id asked →
-    ((line : RequestRoute) → verdict_of_asked table asked ≢ Allowed line) → request_purges table asked ≡ false
+    ((line : RouteOverLine) → verdict_of_asked table asked ≢ Allowed line) → request_purges table asked ≡ false
     → RequestIsRefusedByTheTable table now asked item.outcome
 
 -- One that purges takes away what is held within its scope.
@@ -347,5 +351,5 @@ PurgeRemovesOrExpiresItsScope = (table : Table) (start : StoreAtStart) (first no
 abbrev pub SentReplyIsTheHeldResponse : Type 0
 SentReplyIsTheHeldResponse = (table : Table) (start : StoreAtStart) (first s : ℕ) (item : Item) (past : List Item)
     → IsGoodHistory table start first (item ∷ past) → serial_used_by_outcome item.outcome ≡ Some s →
-    ReplyIsTheStoredResponse table (held_entries table start past)
+    ReplySendsTheStoredResponse table (held_entries table start past)
     (find_exchange (exchange_id_of_event item.event) (open_exchanges table start past)) item.event item.outcome s

@@ -1,13 +1,13 @@
 -- What a proxy begins with: the responses that its store holds at first.
 --
 -- StoreAtStart: how many the store holds at most, and which it holds        empty_store: none
--- StartIsValid: what may be held at first
+-- StoreAtStartIsValid: what may be held at first
 -- changes_at_start: what is held at first counts as stored one after another      HoldsForEachResponseAtStart: what is
 -- so of it
 use Rattle.std.specs.Prelude.{◌≡◌, ℕ, Option, None, Some, List, [], ◌∷◌}
 use Rattle.hx_store.specs.Stored.{Stored}
 use Rattle.hx_store.specs.Serials.{SerialsAreDistinct}
-use Rattle.hx_store.specs.Shelf.{serials, find_entry}
+use Rattle.hx_store.specs.Shelf.{serials, find_entry_of_serial}
 use Rattle.hx_store.specs.Recency.{StoreChange}
 use Rattle.hx_store.specs.WeightedRecency.{WeighedChange}
 use Rattle.hx_store.specs.Weights.{StoreBounds, IsWithinBounds, weight_of_entry}
@@ -23,7 +23,7 @@ abbrev pub empty_store : ℕ → StoreAtStart
 empty_store limit = record { limit = limit; entries = [] }
 
 -- No serial stands twice, none is the first that will be given or above it, and the bounds of the store hold.
-pub record StartIsValid (bounds : StoreBounds) (next : Option ℕ) (entries : List Stored) : Type 0 where
+pub record StoreAtStartIsValid (bounds : StoreBounds) (next : Option ℕ) (entries : List Stored) : Type 0 where
   pub distinct : SerialsAreDistinct (serials entries)
   pub below_next : NoSerialIsHeldFrom next entries
   pub within : IsWithinBounds bounds weight_of_entry entries
@@ -42,9 +42,10 @@ abbrev pub changes_at_start : List Stored → List WeighedChange
 changes_at_start [] = []
 changes_at_start (e ∷ entries) = record {
   change = change_that_stores e;
-  weights = λ s. weight_of_stored_if_any (find_entry s (e ∷ entries));
+  weights = λ s. weight_of_stored_if_any (find_entry_of_serial s (e ∷ entries));
 } ∷ changes_at_start entries
 
 -- something is so of each response that is held at first, under its serial
 abbrev pub HoldsForEachResponseAtStart : (ℕ → Stored → Type 0) → StoreAtStart → Type 0
-HoldsForEachResponseAtStart P start = (serial : ℕ) (e : Stored) → find_entry serial start.entries ≡ Some e → P serial e
+HoldsForEachResponseAtStart P start = (serial : ℕ) (e : Stored) → find_entry_of_serial serial start.entries ≡ Some e
+    → P serial e

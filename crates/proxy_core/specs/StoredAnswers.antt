@@ -2,7 +2,8 @@
 -- that is open and the answer that came for it. So the facts that the storing rules are handed are
 -- said here in the field's terms. And what is then held no longer.
 --
--- VaryNamesFields, ConnectionRemovedNoCachingField, ResponseCanBeReused: what the answer's fields have to say
+-- VaryHasOnlyFieldNames, ConnectionRemovedNoCachingField, ResponseHasLifetimeOrValidator: what the answer's fields have
+-- to say
 -- KeyIsNotOvertakenSinceForward: nothing that was asked for under its key was overtaken meanwhile
 -- AnswerMayBeStored: all that is asked             IsAnswerThatMayBeStored: an item that stores it
 -- FreshenedMayBeKept: what is asked of a response that a 304 freshens
@@ -20,8 +21,8 @@ use Rattle.hx_target.specs.declared.keys.Key.{Key}
 use Rattle.hx_vary.specs.declared.limits.TheConstants.{MOST_VARY_NAMES}
 use Rattle.hx_vary.specs.Vary.{vary_names}
 use Rattle.hx_hop.specs.Answering.{answered_of}
-use Rattle.hx_hop.specs.Bypass.{request_has_content, has_precondition}
-use Rattle.hx_hop.specs.Stripping.{caching_field_names, connection_names}
+use Rattle.hx_hop.specs.Bypass.{request_has_content, has_precondition_for_origin}
+use Rattle.hx_hop.specs.Stripping.{caching_field_names, connection_has_option}
 use Rattle.hx_policy.specs.Policies.{lifetime_given_by_policy}
 use Rattle.hx_policy.specs.declared.words.Policy.{Policy}
 use Rattle.hx_allow.specs.TableLines.{Table}
@@ -29,11 +30,11 @@ use Rattle.hx_allow.specs.Matching.{policy_of}
 use Rattle.hx_store.specs.Stored.{Stored}
 use Rattle.hx_store.specs.Shelf.{serials_of_key}
 use Rattle.hx_store.specs.Weights.{weight_of_entry}
-use Rattle.hx_storable.specs.Storable.{StatusIsFinal, RequestIsForTheStore, AnswerIsNotToItsRangeAlone}
+use Rattle.hx_storable.specs.Storable.{StatusIsFinal, RequestAllowsStoring, AnswerDoesNotDependOnRange}
 use Rattle.hx_storable.specs.Storable.{PolicyAllowsStoring}
 use Rattle.hx_storable.specs.Storable.{ResponseIsStorable, StatusNeedsToBeUnderstood, NoStoreIsAbsentOrLifted}
 use Rattle.hx_storable.specs.Storable.{ResponseAllowsSharedWithAuthorization, ResponseAllowsStoring}
-use Rattle.hx_storable.specs.Rules.{is_understood_status, request_has_directive, response_has}
+use Rattle.hx_storable.specs.Rules.{is_understood_status, request_has_directive, response_has_directive}
 use Rattle.hx_validate.specs.Validators.{date_validator, etag_validator}
 use Rattle.hx_validate.specs.Room.{head_leaves_room}
 use Rattle.proxy_core.specs.declared.open.exchange.Exchange.{Exchange}
@@ -41,38 +42,38 @@ use Rattle.proxy_core.specs.declared.outcome.Outcome.{Outcome}
 use Rattle.proxy_core.specs.declared.event.Event.{Event}
 use Rattle.proxy_core.specs.declared.event.Event.TheVariants.{Arrive, Answer, Fail, Wake, Abandon, Overdue}
 use Rattle.proxy_core.specs.Storing.{serials_replaced_by_storing, weight_of_answer}
-use Rattle.proxy_core.specs.Validating.{stored_response_validated, freshened_by_304, freshened_may_be_kept}
+use Rattle.proxy_core.specs.Validating.{stored_response_validated_by_304, freshened_by_304, freshened_may_be_kept}
 use Rattle.proxy_core.specs.Validating.{head_of_stored}
 use Rattle.proxy_core.specs.Outcomes.{find_exchange, exchange_id_of_event}
 use Rattle.proxy_core.specs.State.{serial_stored_by_outcome, serial_used_by_outcome, serials_removed_by_outcome}
-use Rattle.proxy_core.specs.Scopes.{serials_to_remove, serials_to_expire}
-use Rattle.proxy_core.specs.State.{outcome_purges, expired_by_outcome}
+use Rattle.proxy_core.specs.Scopes.{serials_purge_removes, serials_purge_expires}
+use Rattle.proxy_core.specs.State.{outcome_purges, expired_serials_if_any}
 use Rattle.proxy_core.specs.Allowing.{request_purges}
 use Rattle.proxy_core.specs.Starts.{StoreAtStart}
 use Rattle.proxy_core.specs.Traces.{Item}
 use Rattle.proxy_core.specs.Histories.{IsGoodHistory, held_entries, next_serial, open_exchanges}
-use Rattle.proxy_core.specs.Promises.{key_invalidated_by_answer, outcome_goes_forward, count_of_outcomes}
+use Rattle.proxy_core.specs.Promises.{key_invalidated_by_answer, outcome_goes_forward, count_of_outcomes_of_id}
 use Rattle.proxy_core.specs.Promises.{NoItemOvertakesKey}
 
 -- each member of Vary is a field name: none is a star, by which no later request would ever match
 -- (RFC 9111, section 4.1)
 -- own: what no request would match isn't stored, and a member that is no name counts as a star; so do more members than
 -- a cache compares ("A Vary of many names counts as a star")
-abbrev pub VaryNamesFields : List Field → Type 0
-VaryNamesFields fields =
+abbrev pub VaryHasOnlyFieldNames : List Field → Type 0
+VaryHasOnlyFieldNames fields =
     (length (vary_names fields) ≤ MOST_VARY_NAMES)
     × All (λ name. (bytes_eq name (codes "*") ≡ false) × (is_token name ≡ true)) (vary_names fields)
 
 -- Connection took away no field by which a cache decides (RFC 9110, section 7.6.1)
 -- own: without it the response says less than its origin said ("Less is stored than the standard allows")
 abbrev pub ConnectionRemovedNoCachingField : List Field → Type 0
-ConnectionRemovedNoCachingField received = All (λ name. connection_names received name ≡ false) caching_field_names
+ConnectionRemovedNoCachingField received = All (λ name. connection_has_option received name ≡ false) caching_field_names
 
 -- it says how long it is fresh (RFC 9111, section 4.2.1), or has a validator, by which it can be
 -- asked about (section 4.3.1), or the operator gives it a lifetime (section 4.2.2)
 -- own: any other would never be sent, since no lifetime is guessed ("No lifetime is guessed")
-abbrev pub ResponseCanBeReused : Policy → ℕ → List Field → Type 0
-ResponseCanBeReused policy status fields =
+abbrev pub ResponseHasLifetimeOrValidator : Policy → ℕ → List Field → Type 0
+ResponseHasLifetimeOrValidator policy status fields =
     (directive_occurs (occurrences_of fields) SMaxage ≡ true)
     ⊎ ((directive_occurs (occurrences_of fields) MaxAge ≡ true)
     ⊎ ((has_line fields (codes "Expires") ≡ true)
@@ -92,7 +93,7 @@ pub record KeyIsNotOvertakenSinceForward (past : List Item) (x : Exchange) : Typ
   pub past_is : past ≡ since ++ went ∷ before
   pub is_of_exchange : exchange_id_of_event went.event ≡ x.id
   pub goes_forward : outcome_goes_forward went.outcome ≡ true
-  pub is_the_last : count_of_outcomes outcome_goes_forward x.id since ≡ 0
+  pub is_the_last : count_of_outcomes_of_id outcome_goes_forward x.id since ≡ 0
   pub nothing_overtakes : NoItemOvertakesKey x.asked.target.key since (went ∷ before)
 
 -- The answer to an exchange may be stored: by the standard's list.
@@ -103,11 +104,11 @@ pub record AnswerMayBeStored (table : Table) (next : Option ℕ) (past : List It
     (now : ℕ) : Type 0 where
   pub operator_allows : (policy_of table.lines x.line).caches ≡ true
   pub is_storable : ResponseIsStorable x.asked (answered_of r now)
-  pub is_for_the_store : RequestIsForTheStore x.asked (answered_of r now) (policy_of table.lines x.line)
+  pub is_for_the_store : RequestAllowsStoring x.asked (answered_of r now) (policy_of table.lines x.line)
   pub policy_allows_it : PolicyAllowsStoring x.asked (answered_of r now) (policy_of table.lines x.line)
-  pub names_fields : VaryNamesFields (answered_of r now).fields
+  pub names_fields : VaryHasOnlyFieldNames (answered_of r now).fields
   pub connection_lists_no_cache_field : ConnectionRemovedNoCachingField r.fields
-  pub can_be_reused : ResponseCanBeReused (policy_of table.lines x.line) r.status (answered_of r now).fields
+  pub can_be_reused : ResponseHasLifetimeOrValidator (policy_of table.lines x.line) r.status (answered_of r now).fields
   pub key_is_not_overtaken : KeyIsNotOvertakenSinceForward past x
   pub fits : length r.content ≤ table.max_stored
   pub fits_the_store : IfSome table.max_store (λ most. weight_of_answer x r now ≤ most)
@@ -139,18 +140,18 @@ pub record FreshenedMayBeKept (table : Table) (x : Exchange) (r : Response) (e :
   pub line_has_cache : (policy_of table.lines x.line).caches ≡ true
   pub status_is_understood : StatusNeedsToBeUnderstood (head_of_stored e) → is_understood_status e.status ≡ true
   pub no_no_store : NoStoreIsAbsentOrLifted (head_of_stored e)
-  pub not_private : response_has (head_of_stored e) Private ≡ false
+  pub not_private : response_has_directive (head_of_stored e) Private ≡ false
   pub not_authorized : (has_line x.asked.fields (codes "Authorization") ≡ false)
       ⊎ ResponseAllowsSharedWithAuthorization (head_of_stored e)
   pub allowed : ResponseAllowsStoring (head_of_stored e)
   pub request_has_no_no_store : request_has_directive x.asked NoStore ≡ false
   pub no_content : request_has_content x.asked ≡ false
-  pub is_not_for_its_range : AnswerIsNotToItsRangeAlone x.asked (head_of_stored e) (policy_of table.lines x.line)
-  pub no_precondition : has_precondition x.asked ≡ false
+  pub is_not_for_its_range : AnswerDoesNotDependOnRange x.asked (head_of_stored e) (policy_of table.lines x.line)
+  pub no_precondition : has_precondition_for_origin x.asked ≡ false
   pub policy_allows_it : PolicyAllowsStoring x.asked (head_of_stored e) (policy_of table.lines x.line)
-  pub names_fields : VaryNamesFields e.fields
+  pub names_fields : VaryHasOnlyFieldNames e.fields
   pub connection_of_304_removed_no_caching_field : ConnectionRemovedNoCachingField r.fields
-  pub can_be_reused : ResponseCanBeReused (policy_of table.lines x.line) e.status e.fields
+  pub can_be_reused : ResponseHasLifetimeOrValidator (policy_of table.lines x.line) e.status e.fields
   pub fits : length e.content ≤ table.max_stored
   pub fits_the_store : IfSome table.max_store (λ most. weight_of_entry e ≤ most)
   pub leaves_room : head_leaves_room e.fields ≡ true
@@ -158,34 +159,37 @@ pub record FreshenedMayBeKept (table : Table) (x : Exchange) (r : Response) (e :
 -- ---- what is taken away
 
 -- a response that a 304 answers and freshens goes, unless it may be kept (RFC 9111, sections 3 and 4.3.4)
-abbrev pub SerialsAreRemovedAfter304 : Table → Exchange → ℕ → Response → Option Stored → List ℕ → Type 0
-SerialsAreRemovedAfter304 table x now r None gone = gone ≡ []
-SerialsAreRemovedAfter304 table x now r (Some e) gone =
+abbrev pub FreshenedIsRemovedUnlessItMayBeKept : Table → Exchange → ℕ → Response → Option Stored → List ℕ → Type 0
+FreshenedIsRemovedUnlessItMayBeKept table x now r None gone = gone ≡ []
+FreshenedIsRemovedUnlessItMayBeKept table x now r (Some e) gone =
     (FreshenedMayBeKept table x r (freshened_by_304 x r now e) → gone ≡ [])
     × ((FreshenedMayBeKept table x r (freshened_by_304 x r now e) → ⊥) → gone ≡ e.serial ∷ [])
 
 -- all that is held for a key goes, where one is invalidated (section 4.4)
-abbrev pub SerialsAreRemovedByAnswerStatus : Table → List Stored → Exchange → ℕ → Response → Option Key → List ℕ
+abbrev pub SerialsAreRemovedByInvalidationOr304 : Table → List Stored → Exchange → ℕ → Response → Option Key → List ℕ
     → Type 0
-SerialsAreRemovedByAnswerStatus table held x now r (Some key) gone = gone ≡ serials_of_key key held
-SerialsAreRemovedByAnswerStatus table held x now r None gone = SerialsAreRemovedAfter304 table x now r
-    (stored_response_validated held x r now) gone
+SerialsAreRemovedByInvalidationOr304 table held x now r (Some key) gone = gone ≡ serials_of_key key held
+SerialsAreRemovedByInvalidationOr304 table held x now r None gone = FreshenedIsRemovedUnlessItMayBeKept table x now r
+    (stored_response_validated_by_304 held x r now) gone
 
 -- By an answer: where it is stored, those go that would answer the same request (section 4.1).
-abbrev pub SerialsAreRemovedByAnswer : Table → List Stored → Exchange → ℕ → Response → Option ℕ → List ℕ → Type 0
-SerialsAreRemovedByAnswer table held x now r (Some stored) gone = gone ≡ serials_replaced_by_storing held x.asked
-SerialsAreRemovedByAnswer table held x now r None gone = SerialsAreRemovedByAnswerStatus table held x now r
+abbrev pub AnswerReplacesOrInvalidatesSerials : Table → List Stored → Exchange → ℕ → Response → Option ℕ → List ℕ
+    → Type 0
+AnswerReplacesOrInvalidatesSerials table held x now r (Some stored) gone =
+    gone ≡ serials_replaced_by_storing held x.asked
+AnswerReplacesOrInvalidatesSerials table held x now r None gone = SerialsAreRemovedByInvalidationOr304 table held x now
+    r
     (key_invalidated_by_answer x.asked r) gone
 
 -- a request that purges takes away all that is held within its scope, unless it says that it stays; no other event
 -- takes anything away
 abbrev pub OutcomeRemovesExactlyWhatItMust : Table → List Stored → Option Exchange → Event → Outcome → Type 0
 OutcomeRemovesExactlyWhatItMust table held (Some x) (Answer now id r) outcome =
-    SerialsAreRemovedByAnswer table held x now r
+    AnswerReplacesOrInvalidatesSerials table held x now r
     (serial_stored_by_outcome outcome) (serials_removed_by_outcome outcome)
 OutcomeRemovesExactlyWhatItMust table held None (Answer now id r) outcome = serials_removed_by_outcome outcome ≡ []
 OutcomeRemovesExactlyWhatItMust table held x (Arrive now id asked) outcome = serials_removed_by_outcome outcome
-    ≡ cond (request_purges table asked) (serials_to_remove asked held) []
+    ≡ cond (request_purges table asked) (serials_purge_removes asked held) []
 OutcomeRemovesExactlyWhatItMust table held x (Fail now id kind) outcome = serials_removed_by_outcome outcome ≡ []
 OutcomeRemovesExactlyWhatItMust table held x (Wake now id) outcome = serials_removed_by_outcome outcome ≡ []
 OutcomeRemovesExactlyWhatItMust table held x (Abandon id) outcome = serials_removed_by_outcome outcome ≡ []
@@ -193,13 +197,13 @@ OutcomeRemovesExactlyWhatItMust table held x (Overdue id) outcome = serials_remo
 
 -- own: where it says so, that stays, and is expired; no other event expires anything ("A purge that expires")
 abbrev pub OutcomeExpiresExactlyWhatItMust : Table → List Stored → Event → Outcome → Type 0
-OutcomeExpiresExactlyWhatItMust table held (Arrive now id asked) outcome = expired_by_outcome outcome
-    ≡ cond (request_purges table asked) (serials_to_expire asked held) None
-OutcomeExpiresExactlyWhatItMust table held (Answer now id r) outcome = expired_by_outcome outcome ≡ None
-OutcomeExpiresExactlyWhatItMust table held (Fail now id kind) outcome = expired_by_outcome outcome ≡ None
-OutcomeExpiresExactlyWhatItMust table held (Wake now id) outcome = expired_by_outcome outcome ≡ None
-OutcomeExpiresExactlyWhatItMust table held (Abandon id) outcome = expired_by_outcome outcome ≡ None
-OutcomeExpiresExactlyWhatItMust table held (Overdue id) outcome = expired_by_outcome outcome ≡ None
+OutcomeExpiresExactlyWhatItMust table held (Arrive now id asked) outcome = expired_serials_if_any outcome
+    ≡ cond (request_purges table asked) (serials_purge_expires asked held) None
+OutcomeExpiresExactlyWhatItMust table held (Answer now id r) outcome = expired_serials_if_any outcome ≡ None
+OutcomeExpiresExactlyWhatItMust table held (Fail now id kind) outcome = expired_serials_if_any outcome ≡ None
+OutcomeExpiresExactlyWhatItMust table held (Wake now id) outcome = expired_serials_if_any outcome ≡ None
+OutcomeExpiresExactlyWhatItMust table held (Abandon id) outcome = expired_serials_if_any outcome ≡ None
+OutcomeExpiresExactlyWhatItMust table held (Overdue id) outcome = expired_serials_if_any outcome ≡ None
 
 -- by the table an event purges
 abbrev pub event_purges : Table → Event → Bool
@@ -224,8 +228,8 @@ AnswerIsStoredWhereItMayBe =
 
 -- Nothing else is stored. That its status is final is known of each response that was read (law
 -- `responses_read_are_final`).
-abbrev pub NothingElseIsStored : Type 0
-NothingElseIsStored = (table : Table) (start : StoreAtStart) (first s : ℕ) (item : Item) (past : List Item) →
+abbrev pub OnlyWhatMayBeStoredIsStored : Type 0
+OnlyWhatMayBeStoredIsStored = (table : Table) (start : StoreAtStart) (first s : ℕ) (item : Item) (past : List Item) →
     IsGoodHistory table start first (item ∷ past) → serial_stored_by_outcome item.outcome ≡ Some s
     → IsAnswerThatMayBeStored table start first item past
 

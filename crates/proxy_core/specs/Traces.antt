@@ -1,15 +1,17 @@
 -- Whole runs: what happened and what it gave, the latest first.
 --
 -- Item: an accepted step       trace_of_events: the items of events and their outcomes
--- state_after_trace: what a trace leaves    IsGood: each item is what its case gives, over the list that a core keeps
--- RunStopsWithFault: why a run stopped     ArrivalIsDenied, OutcomeLeavesNoTrace: requests that the operator's table
+-- state_after_trace: what a trace leaves    TraceIsGood: each item is what its case gives, over the list that a core
+-- keeps
+-- RunStopsWithFault: why a run stopped     ArrivalIsDenied, OutcomeIsReplyWithoutStoreUse: requests that the operator's
+-- table
 -- denies
 use Rattle.std.specs.Prelude.{◌≡◌, ◌≢◌, ℕ, false, Option, None, Some, List, [], ◌∷◌}
 use Rattle.std.specs.List.{AllByRecursion}
 use Rattle.hx_allow.specs.TableLines.{Table}
 use Rattle.proxy_core.specs.Allowing.{verdict_of_asked, request_purges}
 use Rattle.hx_allow.specs.declared.verdicts.Verdict.TheVariants.{Allowed}
-use Rattle.hx_allow.specs.declared.verdicts.RequestRoute.{RequestRoute}
+use Rattle.hx_allow.specs.declared.verdicts.RouteOverLine.{RouteOverLine}
 use Rattle.proxy_core.specs.declared.outcome.Outcome.{Outcome}
 use Rattle.proxy_core.specs.declared.outcome.Outcome.TheVariants.{Reply, Forward, Waits, Ended, WaitsNoMore}
 use Rattle.proxy_core.specs.declared.event.Event.{Event}
@@ -19,21 +21,21 @@ use Rattle.proxy_core.specs.declared.open.exchange.Exchange.{Exchange}
 use Rattle.hx_store.specs.Stored.{Stored}
 use Rattle.proxy_core.specs.Outcomes.{outcome_of_event, step_fault}
 use Rattle.proxy_core.specs.State.{State, StepIsRefusedWith, bounds_of, state_after_event}
-use Rattle.proxy_core.specs.Starts.{StoreAtStart, StartIsValid}
+use Rattle.proxy_core.specs.Starts.{StoreAtStart, StoreAtStartIsValid}
 
 pub record Item : Type 0 where
   pub event : Event
   pub outcome : Outcome
 
 -- the items of these events and their outcomes, the latest first, in front of past
-abbrev pub trace_in_front_of : List Item → List Outcome → List Event → List Item
-trace_in_front_of past [] events = past
-trace_in_front_of past (o ∷ outcomes) [] = past
-trace_in_front_of past (o ∷ outcomes) (e ∷ events) = trace_in_front_of (record { event = e; outcome = o }
+abbrev pub trace_extended_by_events : List Item → List Outcome → List Event → List Item
+trace_extended_by_events past [] events = past
+trace_extended_by_events past (o ∷ outcomes) [] = past
+trace_extended_by_events past (o ∷ outcomes) (e ∷ events) = trace_extended_by_events (record { event = e; outcome = o }
     ∷ past) outcomes events
 
 abbrev pub trace_of_events : List Event → List Outcome → List Item
-trace_of_events events outcomes = trace_in_front_of [] outcomes events
+trace_of_events events outcomes = trace_extended_by_events [] outcomes events
 
 -- a core to which nothing has happened, with what its store holds at first
 abbrev pub initial_state : Table → StoreAtStart → ℕ → State
@@ -60,12 +62,12 @@ pub record ItemIsAccepted (table : Table) (held : List Stored) (exchanges : List
 
 -- What is held at first may be, and each item is what its case gives, over what the items before it leave of a core;
 -- `Histories.antt` says the same with no list of the program in it.
-abbrev pub IsGood : State → List Item → Type 0
-IsGood start [] = StartIsValid (bounds_of start.table start.limit) start.next start.entries
-IsGood start (item ∷ past) =
+abbrev pub TraceIsGood : State → List Item → Type 0
+TraceIsGood start [] = StoreAtStartIsValid (bounds_of start.table start.limit) start.next start.entries
+TraceIsGood start (item ∷ past) =
     ItemIsAccepted start.table (state_after_trace start past).entries (state_after_trace start past).exchanges
     (state_after_trace start past).next item
-    × IsGood start past
+    × TraceIsGood start past
 
 -- the next event is refused: by the least fault that stands at it, or where none does because memory ran out
 abbrev pub RunStopsWithFault : State → Option Event → CoreFault → Type 0
@@ -75,7 +77,7 @@ RunStopsWithFault s (Some event) fault = StepIsRefusedWith s event fault
 -- no line of the table allows the request that arrives, nor purges for it
 abbrev pub ArrivalIsDenied : Table → Event → Type 0
 ArrivalIsDenied table (Arrive now id asked) =
-    ((line : RequestRoute) → verdict_of_asked table asked ≢ Allowed line) × (request_purges table asked ≡ false)
+    ((line : RouteOverLine) → verdict_of_asked table asked ≢ Allowed line) × (request_purges table asked ≡ false)
 ArrivalIsDenied table (Answer now id r) = ⊥
 ArrivalIsDenied table (Fail now id kind) = ⊥
 ArrivalIsDenied table (Wake now id) = ⊥
@@ -83,14 +85,15 @@ ArrivalIsDenied table (Abandon id) = ⊥
 ArrivalIsDenied table (Overdue id) = ⊥
 
 -- nothing is stored, used, removed or expired, and no exchange opens
-abbrev pub OutcomeLeavesNoTrace : Outcome → Type 0
-OutcomeLeavesNoTrace (Reply r) = (r.stored ≡ None) × (r.used ≡ None) × (r.removed ≡ []) × (r.expired ≡ None)
-OutcomeLeavesNoTrace (Forward line bytes) = ⊥
-OutcomeLeavesNoTrace (Waits leader) = ⊥
-OutcomeLeavesNoTrace Ended = ⊥
-OutcomeLeavesNoTrace WaitsNoMore = ⊥
+abbrev pub OutcomeIsReplyWithoutStoreUse : Outcome → Type 0
+OutcomeIsReplyWithoutStoreUse (Reply r) = (r.stored ≡ None) × (r.used ≡ None) × (r.removed ≡ []) × (r.expired ≡ None)
+OutcomeIsReplyWithoutStoreUse (Forward line bytes) = ⊥
+OutcomeIsReplyWithoutStoreUse (Waits leader) = ⊥
+OutcomeIsReplyWithoutStoreUse Ended = ⊥
+OutcomeIsReplyWithoutStoreUse WaitsNoMore = ⊥
 
 -- a denied request leaves no trace
 abbrev pub DeniedRequestsLeaveNoTrace : Table → List Item → Type 0
 DeniedRequestsLeaveNoTrace table trace =
-    AllByRecursion (λ (item : Item). ArrivalIsDenied table item.event → OutcomeLeavesNoTrace item.outcome) trace
+    AllByRecursion
+    (λ (item : Item). ArrivalIsDenied table item.event → OutcomeIsReplyWithoutStoreUse item.outcome) trace

@@ -1,9 +1,9 @@
 -- Going forward to have a held response validated, and what a 304 does for it (RFC 9111, section 4.3).
 --
--- condition_about_stored, condition_about_serial: what a request carries of a held response
+-- condition_to_revalidate_stored, condition_to_revalidate_serial: what a request carries of a held response
 -- is_304_to_own_conditions: a 304 to what it carried
--- stored_response_is_answered: the 304 answers a held response
--- without_cookies, stored_without_cookies: what is left where cookies are removed
+-- stored_response_is_answered_by_304: the 304 answers a held response
+-- without_set_cookie_if, stored_without_cookies: what is left where cookies are removed
 -- times_after_304, freshened_by_304: what that becomes
 -- freshened_may_be_kept: and whether it is kept, by the storing rules
 use Rattle.std.specs.Prelude.{ℕ, ◌==◌, nat_lt, ◌&&◌, ◌||◌, Bool, false, List, length, codes, Option, Some, None}
@@ -14,35 +14,36 @@ use Rattle.hx_fields.specs.FieldLines.{without_named}
 use Rattle.hx_framing.specs.declared.messages.Response.{Response}
 use Rattle.hx_age.specs.Age.{times_of_message}
 use Rattle.hx_age.specs.declared.moments.Times.{Times}
-use Rattle.hx_vary.specs.Vary.{vary_is_star}
+use Rattle.hx_vary.specs.Vary.{vary_counts_as_star}
 use Rattle.hx_hop.specs.Answering.{answered_of}
-use Rattle.hx_hop.specs.Stripping.{lists_cache_field}
+use Rattle.hx_hop.specs.Stripping.{connection_names_caching_field}
 use Rattle.hx_hop.specs.declared.response_view.Answered.{Answered}
 use Rattle.hx_hop.specs.declared.request_view.Asked.{Asked}
 use Rattle.hx_hop.specs.declared.conditions.Conditions.{Conditions}
 use Rattle.hx_allow.specs.TableLines.{Table}
 use Rattle.hx_allow.specs.Matching.{policy_of}
 use Rattle.hx_store.specs.Stored.{Stored}
-use Rattle.hx_store.specs.Shelf.{find_entry}
+use Rattle.hx_store.specs.Shelf.{find_entry_of_serial}
 use Rattle.hx_store.specs.Weights.{weight_of_entry}
 use Rattle.hx_reuse.specs.Lifetimes.{lifetime_under_policy}
-use Rattle.hx_storable.specs.Rules.{storage_rule_of}
+use Rattle.hx_storable.specs.Rules.{rule_against_storing}
 use Rattle.hx_storable.specs.declared.known_facts.StoringFacts.{StoringFacts}
-use Rattle.hx_validate.specs.Validators.{has_validator, conditions_of}
-use Rattle.hx_validate.specs.Answering.{answers304, freshened_of}
+use Rattle.hx_validate.specs.Validators.{has_validator, validating_conditions_of}
+use Rattle.hx_validate.specs.Answering.{is_validated_by_304, freshened_of}
 use Rattle.hx_validate.specs.Room.{head_leaves_room}
 use Rattle.proxy_core.specs.declared.steps.condition.Condition.{Condition}
 use Rattle.proxy_core.specs.declared.open.exchange.Exchange.{Exchange}
 
 -- a held response that has a validator is asked about (RFC 9111, section 4.3.1)
-abbrev pub condition_about_stored : Stored → Option Condition
-condition_about_stored e = cond (has_validator e.fields) (Some
-    (record { serial = e.serial; sent = conditions_of e.fields })) None
+abbrev pub condition_to_revalidate_stored : Stored → Option Condition
+condition_to_revalidate_stored e = cond (has_validator e.fields) (Some
+    (record { serial = e.serial; sent = validating_conditions_of e.fields })) None
 
 -- the held response of a serial, where a rule names one
-abbrev pub condition_about_serial : List Stored → Option ℕ → Option Condition
-condition_about_serial es None = None
-condition_about_serial es (Some serial) = option_and_then condition_about_stored (find_entry serial es)
+abbrev pub condition_to_revalidate_serial : List Stored → Option ℕ → Option Condition
+condition_to_revalidate_serial es None = None
+condition_to_revalidate_serial es (Some serial) =
+    option_and_then condition_to_revalidate_stored (find_entry_of_serial serial es)
 
 -- what the request carries
 abbrev pub conditions_to_send : Option Condition → Option Conditions
@@ -53,13 +54,13 @@ abbrev pub is_304_to_own_conditions : Exchange → Response → Bool
 is_304_to_own_conditions x r = (r.status == 304) && is_some x.condition
 
 -- a response to these conditions answers a held response
-abbrev pub condition_is_answered : Option Condition → Response → ℕ → Stored → Bool
-condition_is_answered None r now e = false
-condition_is_answered (Some c) r now e = (r.status == 304)
-    && ((c.serial == e.serial) && answers304 e c.sent (answered_of r now))
+abbrev pub condition_is_answered_by_304 : Option Condition → Response → ℕ → Stored → Bool
+condition_is_answered_by_304 None r now e = false
+condition_is_answered_by_304 (Some c) r now e = (r.status == 304)
+    && ((c.serial == e.serial) && is_validated_by_304 e c.sent (answered_of r now))
 
-abbrev pub stored_response_is_answered : Exchange → Response → ℕ → Stored → Bool
-stored_response_is_answered x r now e = condition_is_answered x.condition r now e
+abbrev pub stored_response_is_answered_by_304 : Exchange → Response → ℕ → Stored → Bool
+stored_response_is_answered_by_304 x r now e = condition_is_answered_by_304 x.condition r now e
 
 -- the serial that was asked about
 abbrev pub serial_asked_about : Option Condition → Option ℕ
@@ -68,25 +69,27 @@ serial_asked_about condition = option_map (λ (c : Condition). c.serial) conditi
 -- the held response that is asked about
 -- own: of all that a 304 identifies it alone is updated, where RFC 9111, section 4.3.4 asks for each of them
 abbrev pub stored_response_asked_about : List Stored → Exchange → Option Stored
-stored_response_asked_about es x = option_and_then (λ serial. find_entry serial es) (serial_asked_about x.condition)
+stored_response_asked_about es x = option_and_then (λ serial. find_entry_of_serial serial es)
+    (serial_asked_about x.condition)
 
-abbrev pub stored_response_if_answered : Exchange → Response → ℕ → Option Stored → Option Stored
-stored_response_if_answered x r now None = None
-stored_response_if_answered x r now (Some e) = cond (stored_response_is_answered x r now e) (Some e) None
+abbrev pub stored_response_if_answered_by_304 : Exchange → Response → ℕ → Option Stored → Option Stored
+stored_response_if_answered_by_304 x r now None = None
+stored_response_if_answered_by_304 x r now (Some e) = cond (stored_response_is_answered_by_304 x r now e) (Some e) None
 
 -- the held response that a 304 answers
-abbrev pub stored_response_validated : List Stored → Exchange → Response → ℕ → Option Stored
-stored_response_validated es x r now = stored_response_if_answered x r now (stored_response_asked_about es x)
+abbrev pub stored_response_validated_by_304 : List Stored → Exchange → Response → ℕ → Option Stored
+stored_response_validated_by_304 es x r now = stored_response_if_answered_by_304 x r now
+    (stored_response_asked_about es x)
 
 -- The lines that are left where cookies are removed. Set-Cookie is for the one who asked (RFC 6265, section 3), and a
 -- response with it may be stored (RFC 9111, section 7.3).
 -- own: without it, where the operator says so ("A cookie stays with the one whom it was set for")
-abbrev pub without_cookies : Bool → List Field → List Field
-without_cookies removes fields = cond removes (without_named fields (codes "Set-Cookie")) fields
+abbrev pub without_set_cookie_if : Bool → List Field → List Field
+without_set_cookie_if removes fields = cond removes (without_named fields (codes "Set-Cookie")) fields
 
 -- what an exchange leaves in the store
 abbrev pub stored_without_cookies : Exchange → Stored → Stored
-stored_without_cookies x e = record e { fields = without_cookies x.removes_cookies e.fields }
+stored_without_cookies x e = record e { fields = without_set_cookie_if x.removes_set_cookie e.fields }
 
 -- The times that a 304 leaves a held response: its own (RFC 9111, section 4.3.4).
 -- own: to a request that was overtaken it says nothing of what was expired since, so that stays expired ("A purge that
@@ -125,8 +128,8 @@ stored_is_too_large table e = nat_lt table.max_stored (length e.content)
 abbrev pub storing_facts_of_freshened : Table → Exchange → Response → Stored → StoringFacts
 storing_facts_of_freshened table x r e = record {
   policy = policy_of table.lines x.line;
-  vary_star = vary_is_star e.fields;
-  listed = lists_cache_field r.fields;
+  vary_star = vary_counts_as_star e.fields;
+  listed = connection_names_caching_field r.fields;
   explicit = (lifetime_under_policy (policy_of table.lines x.line) e.status e.fields).explicit;
   validator = has_validator e.fields;
   too_large = stored_is_too_large table e;
@@ -139,5 +142,5 @@ storing_facts_of_freshened table x r e = record {
 -- own: and its head leaves room for what is added to it where it is sent ("What a 304 brings has a bound")
 abbrev pub freshened_may_be_kept : Table → Exchange → Response → Stored → Bool
 freshened_may_be_kept table x r e =
-    is_none (storage_rule_of (as_get_request x.asked) (head_of_stored e) (storing_facts_of_freshened table x r e))
+    is_none (rule_against_storing (as_get_request x.asked) (head_of_stored e) (storing_facts_of_freshened table x r e))
     && head_leaves_room e.fields

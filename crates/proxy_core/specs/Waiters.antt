@@ -13,45 +13,47 @@ abbrev pub set_contains : Option (BTreeSet ℕ) → ℕ → Bool
 set_contains set n = option_map_or (λ s. contains nat_cmp s n) set false
 
 -- the arrival is there as one that waits for the exchange of this id
-abbrev pub is_in_wait_index : WaitIndex → ℕ → ℕ → Bool
-is_in_wait_index index id n = set_contains (get nat_cmp index.arrivals id) n
+abbrev pub arrival_is_in_wait_index : WaitIndex → ℕ → ℕ → Bool
+arrival_is_in_wait_index index id n = set_contains (get nat_cmp index.arrivals id) n
 
 abbrev pub IsEmptyWaitIndex : WaitIndex → Type 0
-IsEmptyWaitIndex index = (id m : ℕ) → is_in_wait_index index id m ≡ false
+IsEmptyWaitIndex index = (id m : ℕ) → arrival_is_in_wait_index index id m ≡ false
 
 abbrev pub WaitIndexesHaveSameMembers : WaitIndex → WaitIndex → Type 0
-WaitIndexesHaveSameMembers old new = (id m : ℕ) → is_in_wait_index new id m ≡ is_in_wait_index old id m
+WaitIndexesHaveSameMembers old new = (id m : ℕ) → arrival_is_in_wait_index new id m ≡ arrival_is_in_wait_index old id m
 
 -- an arrival was entered whose exchange stands so, and one was taken out
-abbrev pub WaiterIsEntered : Stage → ℕ → WaitIndex → WaitIndex → Type 0
-WaiterIsEntered stage n old new = (id m : ℕ) → is_in_wait_index new id m ≡
-    ((waits_for id stage && n == m) || is_in_wait_index old id m)
+abbrev pub ArrivalIsAddedIfWaiting : Stage → ℕ → WaitIndex → WaitIndex → Type 0
+ArrivalIsAddedIfWaiting stage n old new = (id m : ℕ) → arrival_is_in_wait_index new id m ≡
+    ((waits_for id stage && n == m) || arrival_is_in_wait_index old id m)
 
-abbrev pub WaiterIsRemoved : Stage → ℕ → WaitIndex → WaitIndex → Type 0
-WaiterIsRemoved stage n old new = (id m : ℕ) → is_in_wait_index new id m ≡ (not (waits_for id stage && n == m)
-    && is_in_wait_index old id m)
+abbrev pub ArrivalIsRemovedIfWaiting : Stage → ℕ → WaitIndex → WaitIndex → Type 0
+ArrivalIsRemovedIfWaiting stage n old new = (id m : ℕ) → arrival_is_in_wait_index new id m
+    ≡ (not (waits_for id stage && n == m)
+    && arrival_is_in_wait_index old id m)
 
 -- it was entered where others wait for that exchange, and else nothing was done
-abbrev pub WaiterIsEnteredIf : Bool → ℕ → ℕ → WaitIndex → WaitIndex → Type 0
-WaiterIsEnteredIf true id n old new = WaiterIsEntered (Waiting id) n old new
-WaiterIsEnteredIf false id n old new = WaitIndexesHaveSameMembers old new
-    × ((m : ℕ) → is_in_wait_index old id m ≡ false)
+abbrev pub WaiterIsAddedIfSetExists : Bool → ℕ → ℕ → WaitIndex → WaitIndex → Type 0
+WaiterIsAddedIfSetExists true id n old new = ArrivalIsAddedIfWaiting (Waiting id) n old new
+WaiterIsAddedIfSetExists false id n old new = WaitIndexesHaveSameMembers old new
+    × ((m : ℕ) → arrival_is_in_wait_index old id m ≡ false)
 
 -- those that wait for the exchange of this id, and the index without them
-abbrev pub SetHoldsAllWaiters : Option (BTreeSet ℕ) → ℕ → WaitIndex → Type 0
-SetHoldsAllWaiters set id index = (m : ℕ) → set_contains set m ≡ is_in_wait_index index id m
+abbrev pub SetHoldsAllWaitersOfLeader : Option (BTreeSet ℕ) → ℕ → WaitIndex → Type 0
+SetHoldsAllWaitersOfLeader set id index = (m : ℕ) → set_contains set m ≡ arrival_is_in_wait_index index id m
 
 abbrev pub WaitersAreRemoved : ℕ → WaitIndex → WaitIndex → Type 0
-WaitersAreRemoved id old new = (q m : ℕ) → is_in_wait_index new q m ≡ (not (id == q) && is_in_wait_index old q m)
+WaitersAreRemoved id old new = (q m : ℕ) → arrival_is_in_wait_index new q m
+    ≡ (not (id == q) && arrival_is_in_wait_index old q m)
 
 -- these arrivals were entered as of those that wait for the exchange of this id
 abbrev pub WaitersAreEntered : ℕ → BTreeSet ℕ → WaitIndex → WaitIndex → Type 0
-WaitersAreEntered id set old new = (q m : ℕ) → is_in_wait_index new q m ≡ ((id == q && contains nat_cmp set m)
-    || is_in_wait_index old q m)
+WaitersAreEntered id set old new = (q m : ℕ) → arrival_is_in_wait_index new q m ≡ ((id == q && contains nat_cmp set m)
+    || arrival_is_in_wait_index old q m)
 
 -- the arrival isn't in the index
 abbrev pub ArrivalIsNotInWaitIndex : ℕ → WaitIndex → Type 0
-ArrivalIsNotInWaitIndex n index = (id : ℕ) → is_in_wait_index index id n ≡ false
+ArrivalIsNotInWaitIndex n index = (id : ℕ) → arrival_is_in_wait_index index id n ≡ false
 
 -- no id is in the index for nothing, and the same of each id but this one
 abbrev pub SetIsNotEmpty : BTreeSet ℕ → Type 0

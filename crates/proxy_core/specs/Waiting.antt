@@ -1,11 +1,13 @@
 -- Requests that could be sent the answer to another wait for it. A trace has its latest item first.
 --
 -- RequestCouldWait: a request that could be sent one (`Awaiting.antt`), for the first that leads (`Leading.antt`)
--- RequestWaitsWhereALeaderIsOpen, RequestWaitsNowhereElse, OnlyOneGetPerKeyGoesForward: who waits, and what for
+-- RequestWaitsWhereALeaderIsOpen, RequestWaitsOnlyWhereALeaderIsOpen, OnlyOneGetPerKeyGoesForward: who waits, and what
+-- for
 -- ExchangeMayBeWoken: an exchange that may be woken
 -- leader_of_waiter: for whom a request waits, of those that lead one behind the other
 -- RequestWaitsUntilLeaderEndsOrTimeout, RequestIsWokenOnceAfterLeaderOrTimeout, ReleasedAreInOrderOfArrival,
--- TimeoutHappensExactlyToWaiters, OverdueRequestMayBeWoken, WakeIsAcceptedExactlyWhereReady, WokenRequestIsJudgedAnew:
+-- TimeoutIsAcceptedExactlyForWaiters, OverdueRequestMayBeWoken, WakeIsAcceptedExactlyWhereReady,
+-- WokenRequestIsJudgedAnew:
 -- how it ends
 -- FirstWaiterBecomesLeader, NoWaiterLeadsWhereNoneMay: what the end of a leader's client leaves
 -- NoWaiterLeadsWhereWaitsAreUnlimited: the same over a table of an earlier version
@@ -20,9 +22,9 @@ use Rattle.hx_hop.specs.declared.request_view.Asked.{Asked}
 use Rattle.hx_hop.specs.Bypass.{asks_for_range}
 use Rattle.hx_allow.specs.TableLines.{Table}
 use Rattle.hx_allow.specs.Matching.{policy_of, wait_timeout_of}
-use Rattle.proxy_core.specs.Allowing.{verdict_of_asked, came_back, exchanges_to_wait_for}
+use Rattle.proxy_core.specs.Allowing.{verdict_of_asked, is_refused_as_loop, exchanges_to_wait_for}
 use Rattle.hx_allow.specs.declared.verdicts.Verdict.TheVariants.{Allowed}
-use Rattle.hx_allow.specs.declared.verdicts.RequestRoute.{RequestRoute}
+use Rattle.hx_allow.specs.declared.verdicts.RouteOverLine.{RouteOverLine}
 use Rattle.hx_store.specs.Serials.{serial_is_in}
 use Rattle.hx_store.specs.Stored.{Stored}
 use Rattle.hx_reuse.specs.ChosenAndNamed.{IsLeastReuseRule, RuleOnChosenNamesItsSerial}
@@ -43,14 +45,14 @@ use Rattle.proxy_core.specs.Leading.{is_forwarded, is_released, is_get, is_uri_m
 use Rattle.proxy_core.specs.Leading.{answer_may_be_shared_with}
 use Rattle.proxy_core.specs.Leading.{is_waiting, waits_for, is_leader_for_request, wakeable_ids, IsFirstLeader}
 use Rattle.proxy_core.specs.LeadingOn.{stage_after_leader, next_leader, exchanges_without, exchanges_after_abandon}
-use Rattle.proxy_core.specs.LeadingOn.{IsNextLeader, CouldBeSentAnswerOfNextLeader}
+use Rattle.proxy_core.specs.LeadingOn.{IsNextLeader, WaiterCouldBeSentNextLeadersAnswer}
 use Rattle.proxy_core.specs.Awaiting.{RequestMayAwaitAnother}
 use Rattle.proxy_core.specs.Outcomes.{find_exchange, exchange_id_of_event, step_fault, is_only_if_cached}
-use Rattle.proxy_core.specs.State.{serial_used_by_outcome, exchanges_after_close}
+use Rattle.proxy_core.specs.State.{serial_used_by_outcome, exchanges_after_end_and_release}
 use Rattle.proxy_core.specs.Starts.{StoreAtStart}
 use Rattle.proxy_core.specs.Traces.{Item}
 use Rattle.proxy_core.specs.Histories.{held_entries, open_exchanges, IsGoodHistory}
-use Rattle.proxy_core.specs.Promises.{outcome_ends_exchange, is_arrival_event, NoRequestArrives}
+use Rattle.proxy_core.specs.Promises.{outcome_ends_exchange, is_arrival_event, NoRequestOfIdArrives}
 use Rattle.proxy_core.specs.Carrying.{IdsAreInOrderOfArrival}
 use Rattle.proxy_core.specs.Sending.{StoredResponseIsReusable, MayBeSentWhileLeaderRevalidates}
 
@@ -58,7 +60,7 @@ use Rattle.proxy_core.specs.Sending.{StoredResponseIsReusable, MayBeSentWhileLea
 
 -- A GET that the table allows, that takes an answer of the origin, and that could be sent the answer
 -- to another.
-pub record RequestCouldWait (table : Table) (start : StoreAtStart) (past : List Item) (now : ℕ) (line : RequestRoute)
+pub record RequestCouldWait (table : Table) (start : StoreAtStart) (past : List Item) (now : ℕ) (line : RouteOverLine)
     (asked : Asked) (awaited : Awaited) : Type 0 where
   pub line_allows : verdict_of_asked table asked ≡ Allowed line
   pub is_not_only_if_cached : is_only_if_cached asked ≡ false
@@ -67,7 +69,7 @@ pub record RequestCouldWait (table : Table) (start : StoreAtStart) (past : List 
 -- whoever could wait does, where one leads, unless he is sent what is stale meanwhile
 abbrev pub RequestWaitsWhereALeaderIsOpen : Type 0
 RequestWaitsWhereALeaderIsOpen =
-    (table : Table) (start : StoreAtStart) (first now id : ℕ) (line : RequestRoute) (leader : ℕ)
+    (table : Table) (start : StoreAtStart) (first now id : ℕ) (line : RouteOverLine) (leader : ℕ)
     (asked : Asked)
     (awaited : Awaited)
     (item : Item) (past : List Item) →
@@ -85,24 +87,25 @@ pub record ArrivingRequestWaitsForLeader (table : Table) (start : StoreAtStart) 
   pub now : ℕ
   pub id : ℕ
   pub asked : Asked
-  pub line : RequestRoute
+  pub line : RouteOverLine
   pub arrives : item.event ≡ Arrive now id asked
   pub awaited : Awaited
   pub could : RequestCouldWait table start past now line asked awaited
   pub first_leads : IsFirstLeader (policy_of table.lines line) awaited asked
       (exchanges_to_wait_for table line asked (open_exchanges table start past)) leader
 
-abbrev pub RequestWaitsNowhereElse : Type 0
-RequestWaitsNowhereElse = (table : Table) (start : StoreAtStart) (first leader : ℕ) (item : Item) (past : List Item)
+abbrev pub RequestWaitsOnlyWhereALeaderIsOpen : Type 0
+RequestWaitsOnlyWhereALeaderIsOpen = (table : Table) (start : StoreAtStart) (first leader : ℕ) (item : Item)
+    (past : List Item)
     → IsGoodHistory table start first (item ∷ past) →
     item.outcome ≡ Waits leader → ArrivingRequestWaitsForLeader table start leader item past
 
 -- an open exchange of this id ends: by a reply that isn't given at an arrival, or since the client went away
-abbrev pub exchange_has_closed : ℕ → List Item → Bool
-exchange_has_closed id [] = false
-exchange_has_closed id (i ∷ items) =
+abbrev pub open_exchange_has_ended : ℕ → List Item → Bool
+open_exchange_has_ended id [] = false
+open_exchange_has_ended id (i ∷ items) =
     (exchange_id_of_event i.event == id && (not (is_arrival_event i.event) && outcome_ends_exchange i.outcome))
-    || exchange_has_closed id items
+    || open_exchange_has_ended id items
 
 -- a request arrives and goes forward by this rule, which names this held response or none
 pub record RequestGoesForwardByRule (table : Table) (start : StoreAtStart) (rule : ReuseRule) (named : Option ℕ)
@@ -111,7 +114,7 @@ pub record RequestGoesForwardByRule (table : Table) (start : StoreAtStart) (rule
   pub now : ℕ
   pub id : ℕ
   pub asked : Asked
-  pub line : RequestRoute
+  pub line : RouteOverLine
   pub bytes : List ℕ
   pub arrives : item.event ≡ Arrive now id asked
   pub forward : item.outcome ≡ Forward line bytes
@@ -120,9 +123,9 @@ pub record RequestGoesForwardByRule (table : Table) (start : StoreAtStart) (rule
 
 -- What it went forward for is what a request could be sent: nothing was held for its key, or the rule
 -- names that held response.
-abbrev pub went_forward_for : Awaited → ReuseRule → Option ℕ → Bool
-went_forward_for Missing rule named = is_uri_miss rule
-went_forward_for (Expired serial) rule named = option_names_serial named serial
+abbrev pub went_forward_for_awaited : Awaited → ReuseRule → Option ℕ → Bool
+went_forward_for_awaited Missing rule named = is_uri_miss rule
+went_forward_for_awaited (Expired serial) rule named = option_names_serial named serial
 
 -- The answer to the exchange of this id may be one for a request over a line of this policy: nothing
 -- that is known of it, should it be open still, says otherwise.
@@ -135,22 +138,23 @@ AnswerMayServeAnotherRequest policy asked x =
 -- ended. Over a line with the word this is so while that answer may be for the later one.
 abbrev pub OnlyOneGetPerKeyGoesForward : Type 0
 OnlyOneGetPerKeyGoesForward =
-    (table : Table) (start : StoreAtStart) (first : ℕ) (line : RequestRoute) (awaited : Awaited)
+    (table : Table) (start : StoreAtStart) (first : ℕ) (line : RouteOverLine) (awaited : Awaited)
     (rule : ReuseRule)
     (named : Option ℕ) (bytes : List ℕ) (now id : ℕ) (asked : Asked) (later earlier : Item)
     (between before : List Item) →
     IsGoodHistory table start first (later ∷ (between ++ earlier ∷ before))
-    → later.event ≡ Arrive now id asked → later.outcome ≡ Forward line bytes → came_back table line asked ≡ false
+    → later.event ≡ Arrive now id asked → later.outcome ≡ Forward line bytes → is_refused_as_loop table line asked
+    ≡ false
     → RequestMayAwaitAnother (policy_of table.lines line) (held_entries table start (between ++ earlier
     ∷ before)) asked now
     awaited
     → (went : RequestGoesForwardByRule table start rule named earlier before)
     → is_get went.asked ≡ true → forwards_range (policy_of table.lines line) went.asked ≡ false
     → same_key went.asked.target.key asked.target.key ≡ true
-    → went_forward_for awaited rule named ≡ true
+    → went_forward_for_awaited awaited rule named ≡ true
     → AnswerMayServeAnotherRequest (policy_of table.lines line) asked
     (find_exchange went.id (open_exchanges table start (between ++ earlier ∷ before))) →
-    exchange_has_closed (exchange_id_of_event earlier.event) between ≡ true
+    open_exchange_has_ended (exchange_id_of_event earlier.event) between ≡ true
 
 -- A line without the word lets a GET wait where nothing is held for its key, and nowhere else; and
 -- for any that went for that, but for a range that goes to the origin. Where the line forwards ranges none went for
@@ -224,9 +228,9 @@ leader_of_stage (Waiting leader) = Some leader
 leader_of_stage Released = None
 
 -- one that waits for this leader, or may be woken
-abbrev pub stage_of_waiter : Option ℕ → Stage
-stage_of_waiter None = Released
-stage_of_waiter (Some leader) = Waiting leader
+abbrev pub stage_with_leader_if_any : Option ℕ → Stage
+stage_with_leader_if_any None = Released
+stage_with_leader_if_any (Some leader) = Waiting leader
 
 -- for whom the exchange of an id waits once the client of its leader has gone away
 abbrev pub leader_after_abandon : Table → List Exchange → ℕ → ℕ → Option ℕ
@@ -245,8 +249,8 @@ leader_after_end table xs id leader (Overdue i) = None
 
 -- One that waits for a leader does so until that has ended, by a reply or since the client went away, or until its own
 -- time to wait is over. Where the leader's client went away it waits for the next leader, if it follows one.
-abbrev pub leader_after_item : Table → List Exchange → ℕ → ℕ → Item → Option ℕ
-leader_after_item table xs id leader i =
+abbrev pub leader_of_waiter_after_item : Table → List Exchange → ℕ → ℕ → Item → Option ℕ
+leader_of_waiter_after_item table xs id leader i =
     cond (exchange_id_of_event i.event == id && is_overdue_event i.event) None
     (cond (exchange_id_of_event i.event == leader
     && (not (is_arrival_event i.event) && outcome_ends_exchange i.outcome))
@@ -257,7 +261,7 @@ leader_after_item table xs id leader i =
 abbrev pub leader_of_waiter : Table → StoreAtStart → ℕ → ℕ → List Item → List Item → Option ℕ
 leader_of_waiter table start id leader [] past = Some leader
 leader_of_waiter table start id leader (i ∷ items) past =
-    option_and_then (λ l. leader_after_item table (open_exchanges table start (items ++ past)) id l i)
+    option_and_then (λ l. leader_of_waiter_after_item table (open_exchanges table start (items ++ past)) id l i)
     (leader_of_waiter table start id leader items past)
 
 -- Who waits does so for one leader behind the other, each for as long as said above, and may be woken from then on.
@@ -268,7 +272,7 @@ RequestWaitsUntilLeaderEndsOrTimeout =
     → NothingButItsTimeoutHappened (exchange_id_of_event arrival.event) items →
     stage_of_exchange (find_exchange (exchange_id_of_event arrival.event)
     (open_exchanges table start (items ++ arrival ∷ before)))
-    ≡ Some (stage_of_waiter
+    ≡ Some (stage_with_leader_if_any
     (leader_of_waiter table start (exchange_id_of_event arrival.event) leader items (arrival ∷ before)))
 
 -- It is woken where it waits for nobody any more, behind the end of its last leader or of its time, and once.
@@ -276,7 +280,7 @@ abbrev pub RequestIsWokenOnceAfterLeaderOrTimeout : Type 0
 RequestIsWokenOnceAfterLeaderOrTimeout =
     (table : Table) (start : StoreAtStart) (first now leader : ℕ) (items before : List Item) (wake arrival : Item) →
     IsGoodHistory table start first (wake ∷ (items ++ arrival ∷ before)) → arrival.outcome ≡ Waits leader →
-    wake.event ≡ Wake now (exchange_id_of_event arrival.event) → NoRequestArrives
+    wake.event ≡ Wake now (exchange_id_of_event arrival.event) → NoRequestOfIdArrives
     (exchange_id_of_event arrival.event) items →
     (leader_of_waiter table start (exchange_id_of_event arrival.event) leader items (arrival ∷ before) ≡ None)
     × (request_was_woken (exchange_id_of_event arrival.event) items ≡ false)
@@ -288,9 +292,9 @@ pub record WaiterFollowsTheNextLeader (table : Table) (start : StoreAtStart) (ne
     (items : List Item) : Type 0 where
   pub it_leads : (x.id == next.id) ≡ true
       → stage_of_exchange (find_exchange id (open_exchanges table start items)) ≡ Some Released
-  pub follows : CouldBeSentAnswerOfNextLeader table next x
+  pub follows : WaiterCouldBeSentNextLeadersAnswer table next x
       → stage_of_exchange (find_exchange id (open_exchanges table start items)) ≡ Some (Waiting next.id)
-  pub is_released_otherwise : (CouldBeSentAnswerOfNextLeader table next x → ⊥)
+  pub is_released_otherwise : (WaiterCouldBeSentNextLeadersAnswer table next x → ⊥)
       → stage_of_exchange (find_exchange id (open_exchanges table start items)) ≡ Some Released
 
 -- the first of those that wait leads on, whose answer others could be sent
@@ -318,14 +322,14 @@ NoWaiterLeadsWhereNoneMay = (table : Table) (start : StoreAtStart) (first leader
 abbrev pub NoWaiterLeadsWhereWaitsAreUnlimited : Type 0
 NoWaiterLeadsWhereWaitsAreUnlimited = (table : Table) →
     ((line : ℕ) → is_some (wait_timeout_of table.lines line) ≡ false) →
-    ((id : ℕ) (xs : List Exchange) → exchanges_after_abandon table id xs ≡ exchanges_after_close id xs)
+    ((id : ℕ) (xs : List Exchange) → exchanges_after_abandon table id xs ≡ exchanges_after_end_and_release id xs)
     × ((start : StoreAtStart) (id leader : ℕ) (items past : List Item) →
     leader_of_waiter table start id leader items past
-    ≡ cond (exchange_has_closed leader items || request_wait_timed_out id items) None (Some leader))
+    ≡ cond (open_exchange_has_ended leader items || request_wait_timed_out id items) None (Some leader))
 
 -- the time is over of one that waits for the answer to another, and of no other
-abbrev pub TimeoutHappensExactlyToWaiters : Type 0
-TimeoutHappensExactlyToWaiters = (table : Table) (start : StoreAtStart) (first id : ℕ) (trace : List Item)
+abbrev pub TimeoutIsAcceptedExactlyForWaiters : Type 0
+TimeoutIsAcceptedExactlyForWaiters = (table : Table) (start : StoreAtStart) (first id : ℕ) (trace : List Item)
     → IsGoodHistory table start first trace →
     (step_fault (open_exchanges table start trace) (Overdue id) ≡ None
     → ExchangeIsWaiting id (open_exchanges table start trace))
@@ -334,7 +338,7 @@ TimeoutHappensExactlyToWaiters = (table : Table) (start : StoreAtStart) (first i
 
 -- Then it may be woken, and nothing else has changed: no other exchange, whether it waits or leads, and nothing that is
 -- held. Nothing is sent yet.
-pub record TimeoutReleasesOnlyThatWaiter (table : Table) (start : StoreAtStart) (id : ℕ) (item : Item)
+pub record TimeoutLetsOnlyThatWaiterBeWoken (table : Table) (start : StoreAtStart) (id : ℕ) (item : Item)
     (past : List Item) : Type 0 where
   pub outcome_is : item.outcome ≡ WaitsNoMore
   pub may_be_woken : ExchangeMayBeWoken id (open_exchanges table start (item ∷ past))
@@ -346,7 +350,7 @@ pub record TimeoutReleasesOnlyThatWaiter (table : Table) (start : StoreAtStart) 
 abbrev pub OverdueRequestMayBeWoken : Type 0
 OverdueRequestMayBeWoken = (table : Table) (start : StoreAtStart) (first id : ℕ) (item : Item) (past : List Item)
     → IsGoodHistory table start first (item ∷ past) →
-    item.event ≡ Overdue id → TimeoutReleasesOnlyThatWaiter table start id item past
+    item.event ≡ Overdue id → TimeoutLetsOnlyThatWaiterBeWoken table start id item past
 
 -- those that may be woken stand in the order of arrival, so the first of them arrived first
 abbrev pub ReleasedAreInOrderOfArrival : Type 0

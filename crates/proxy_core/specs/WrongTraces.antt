@@ -12,8 +12,8 @@ use Rattle.hx_framing.specs.declared.messages.Response.{Response}
 use Rattle.hx_hop.specs.declared.request_view.Asked.{Asked}
 use Rattle.hx_allow.specs.Examples.{purge_key}
 use Rattle.hx_allow.specs.TableLines.{Table}
-use Rattle.hx_allow.specs.Matching.{route_over}
-use Rattle.hx_status.specs.Abouts.{about_refusal}
+use Rattle.hx_allow.specs.Matching.{route_over_line}
+use Rattle.hx_status.specs.Abouts.{refusal_status_and_reason}
 use Rattle.hx_status.specs.declared.about.StatusAndReason.{StatusAndReason}
 use Rattle.hx_status.specs.declared.about.Told.TheVariants.{Refused}
 use Rattle.hx_status.specs.declared.cause.Cause.TheVariants.{NoLine}
@@ -26,9 +26,9 @@ use Rattle.proxy_core.specs.Outcomes.{outcome_of_event}
 use Rattle.proxy_core.specs.Starts.{empty_store}
 use Rattle.proxy_core.specs.Traces.{Item}
 use Rattle.proxy_core.specs.Histories.{held_entries, open_exchanges, next_serial}
-use Rattle.proxy_core.specs.Headline.{RequestGoesForwardWhereAllowed, Headline}
+use Rattle.proxy_core.specs.Headline.{RequestGoesForwardOnlyWhereAllowed, Headline}
 use Rattle.proxy_core.specs.Cases.{request_for_path, response_with, cache_control, cache_tag, etag_field, vary_field}
-use Rattle.proxy_core.specs.Cases.{accept_language, line_with_no_cache}
+use Rattle.proxy_core.specs.Cases.{accept_language_line, plain_caching_line}
 
 -- line 1 denies /admin, but purges it by a key, line 2 has no cache, line 3 lets all others through; two responses are
 -- held at most
@@ -39,8 +39,8 @@ three_line_table = record {
   max_body = 1000;
   max_stored = 10;
   max_store = None;
-  lines = record line_with_no_cache { paths = codes "/admin" ∷ []; origin = None; purge_key = Some purge_key }
-      ∷ record line_with_no_cache { paths = codes "/raw" ∷ []; policy = plain false } ∷ line_with_no_cache ∷ [];
+  lines = record plain_caching_line { paths = codes "/admin" ∷ []; origin = None; purge_key = Some purge_key }
+      ∷ record plain_caching_line { paths = codes "/raw" ∷ []; policy = plain false } ∷ plain_caching_line ∷ [];
 }
 
 abbrev pub trace_of_good_events : List Event → List Item
@@ -102,7 +102,7 @@ get_a_only_if_cached = request_by_method (codes "GET") (codes "/a") (cache_contr
 
 -- GET /a in this language
 abbrev pub get_a_in_language : List ℕ → Asked
-get_a_in_language language = request_by_method (codes "GET") (codes "/a") (accept_language language ∷ [])
+get_a_in_language language = request_by_method (codes "GET") (codes "/a") (accept_language_line language ∷ [])
 
 -- fresh for a minute, with a tag; and one that is stale after it and may be sent for a day where the origin fails
 abbrev pub response_fresh_for_a_minute : Response
@@ -119,7 +119,7 @@ response_304 fields = response_with 304 fields
 
 -- what wrong replies tell of themselves, where that isn't asked
 abbrev pub arbitrary_report_of_reply : StatusAndReason
-arbitrary_report_of_reply = about_refusal NoLine 0
+arbitrary_report_of_reply = refusal_status_and_reason NoLine 0
 
 -- the right outcome of an event, of which something else is told
 abbrev pub outcome_with_changed_about : (StatusAndReason → StatusAndReason) → Outcome → Outcome
@@ -136,20 +136,20 @@ right_outcome_with_changed_about other before event =
     (open_exchanges three_line_table (empty_store 2) (trace_of_good_events before))
     (next_serial 1 (trace_of_good_events before)) event)
 
-abbrev pub about_with_status_304 : StatusAndReason → StatusAndReason
-about_with_status_304 about = record about { status = 304 }
+abbrev pub report_with_status_304 : StatusAndReason → StatusAndReason
+report_with_status_304 about = record about { status = 304 }
 
-abbrev pub about_as_refused : StatusAndReason → StatusAndReason
-about_as_refused about = record about { told = Refused NoLine }
+abbrev pub report_as_refused : StatusAndReason → StatusAndReason
+report_as_refused about = record about { told = Refused NoLine }
 
-abbrev pub about_without_content : StatusAndReason → StatusAndReason
-about_without_content about = record about { content_length = 0 }
+abbrev pub report_without_content : StatusAndReason → StatusAndReason
+report_without_content about = record about { content_length = 0 }
 
-abbrev pub about_with_origin_line_3 : StatusAndReason → StatusAndReason
-about_with_origin_line_3 about = record about { origin_line = Some 3 }
+abbrev pub report_with_origin_line_3 : StatusAndReason → StatusAndReason
+report_with_origin_line_3 about = record about { origin_line = Some 3 }
 
-abbrev pub about_without_origin_line : StatusAndReason → StatusAndReason
-about_without_origin_line about = record about { origin_line = None }
+abbrev pub report_without_origin_line : StatusAndReason → StatusAndReason
+report_without_origin_line about = record about { origin_line = None }
 
 -- a reply of these bytes, that the store has no part in
 abbrev pub reply_without_store : List ℕ → Outcome
@@ -179,8 +179,8 @@ reply_that_stores bytes stored removed =
     })
 
 -- a reply that expires these
-abbrev pub reply_that_expires : List ℕ → Outcome
-reply_that_expires expired = Reply (record {
+abbrev pub purge_reply_that_expires : List ℕ → Outcome
+purge_reply_that_expires expired = Reply (record {
   bytes = [];
   close = false;
   about = arbitrary_report_of_reply;
@@ -246,11 +246,11 @@ proxys_condition_with_etag_v = Some (record { serial = 1; sent = record { etag =
 
 -- this doesn't go where it is allowed
 abbrev pub GoingForwardIsWrong : List Item → Event → Outcome → Type 0
-GoingForwardIsWrong past event outcome = RequestGoesForwardWhereAllowed three_line_table (empty_store 2)
+GoingForwardIsWrong past event outcome = RequestGoesForwardOnlyWhereAllowed three_line_table (empty_store 2)
     (item_with_outcome event outcome) past → ⊥
 
 abbrev pub forward_over_line_3 : Outcome
-forward_over_line_3 = Forward (route_over 3) []
+forward_over_line_3 = Forward (route_over_line 3) []
 
 abbrev pub trace_with_three_forwards : List Item
 trace_with_three_forwards = item_with_outcome (Answer 102 1 (response_with 304 [])) forward_over_line_3
@@ -284,8 +284,8 @@ trace_that_stores_overtaken_a =
     ∷ item_with_outcome (Arrive 100 1 get_a) forward_over_line_3 ∷ []
 
 -- GET /a was stored as 1, DELETE /a was answered by this, and what is stored is sent
-abbrev pub trace_that_sends_a_after_delete : Response → List Item
-trace_that_sends_a_after_delete response =
+abbrev pub trace_that_sends_stored_a_after_delete : Response → List Item
+trace_that_sends_stored_a_after_delete response =
     item_with_outcome (Arrive 120 3 get_a) (reply_that_sends_stored 1 [])
     ∷ item_with_outcome (Answer 111 2 response) (reply_without_store [])
     ∷ item_with_outcome (Arrive 110 2 delete_a) forward_over_line_3
@@ -294,8 +294,8 @@ trace_that_sends_a_after_delete response =
     (Arrive 100 1 get_a) forward_over_line_3 ∷ []
 
 -- /a is held at first as 1, POST /a invalidated it, and it is sent
-abbrev pub trace_that_sends_invalidated_at_start : List Item
-trace_that_sends_invalidated_at_start =
+abbrev pub trace_that_sends_invalidated_held_at_start : List Item
+trace_that_sends_invalidated_held_at_start =
     item_with_outcome (Arrive 120 3 get_a) (reply_that_sends_stored 1 [])
     ∷ item_with_outcome (Answer 111 2 (response_with 200 [])) (reply_without_store []) ∷ item_with_outcome
     (Arrive 110 2 post_a) forward_over_line_3 ∷ []
@@ -350,4 +350,4 @@ trace_that_sends_start_after_purge_of_tag tag =
 
 -- it takes all, and nothing away
 abbrev pub purge_item_that_expires : Item
-purge_item_that_expires = item_with_outcome (Arrive 110 2 purge_all_to_expire) (reply_that_expires (1 ∷ []))
+purge_item_that_expires = item_with_outcome (Arrive 110 2 purge_all_to_expire) (purge_reply_that_expires (1 ∷ []))

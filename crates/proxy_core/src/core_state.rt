@@ -8,22 +8,22 @@ ghost use Rattle.proxy_core.specs.Moments.{moment_too_late_fault};
 ghost use Rattle.proxy_core.specs.Waiting.{ExchangeMayBeWoken};
 ghost use Rattle.proxy_core.specs.Leading.{wakeable_ids};
 ghost use Rattle.proxy_core.specs.Outcomes.{find_exchange, step_fault, fault_if_not_forwarded, fault_if_not_released};
-ghost use Rattle.proxy_core.specs.Outcomes.{fault_at_moment, fault_if_not_waiting};
+ghost use Rattle.proxy_core.specs.Outcomes.{fault_of_exchange_or_moment, fault_if_not_waiting};
 ghost use Rattle.proxy_core.specs.declared.event.Event.TheVariants.{Abandon, Answer, Fail, Overdue, Wake};
 ghost use Rattle.proxy_core.specs.State.{State, StepIsAccepted, StepIsRefusedWith, bounds_of};
-ghost use Rattle.proxy_core.specs.Starts.{StartIsValid};
+ghost use Rattle.proxy_core.specs.Starts.{StoreAtStartIsValid};
 ghost use Rattle.proxy_core.specs.Traces.{initial_state};
 
 use crate::core_fault::CoreFault;
 use crate::event::Event;
-use crate::moments::moment_fault;
+use crate::moments::fault_if_moment_too_late;
 use crate::open::exchange::Exchange;
 use crate::open::exchanges::Exchanges;
 use crate::open::ids::Ids;
 use crate::open::leading::{is_forwarded, is_released, is_waiting};
 use crate::open::stage::Stage;
 use crate::outcome::Outcome;
-use hx_allow::Config;
+use hx_allow::Table;
 use hx_store::Shelf;
 use std::alloc::{AllocError, Global};
 use std::marker::Model;
@@ -63,7 +63,7 @@ fn fault_if_not_waiting(stage: Stage) -> Option<CoreFault>
 
 /// One thread's proxy. Contracts see its `State`.
 pub struct Core<S: Shelf> {
-    pub(crate) config: Config,
+    pub(crate) config: Table,
     pub(crate) shelf: S,
     pub(crate) exchanges: Exchanges,
     pub(crate) next: Option<u64>,
@@ -100,7 +100,7 @@ impl<S: Shelf> Model for Core<S> {
 impl<S: Shelf> Core<S> {
     /// A core with an empty shelf of the configured capacity. Serials begin at `first_serial`, 1 or more.
     #[tactic(auto, using(crate::proofs::Beginning::nothing_stands))]
-    pub fn new(alloc: Global, config: Config, shelf: S, first_serial: u64) -> Self
+    pub fn new(alloc: Global, config: Table, shelf: S, first_serial: u64) -> Self
         requires { S.entries shelf ≡ [] }
         ensures { result
             ≡ record { table = config; limit = S.limit shelf; entries = []; exchanges = []; next = Some first_serial } }
@@ -110,8 +110,8 @@ impl<S: Shelf> Core<S> {
 
     /// A core over a shelf of the configured capacity that holds what a store held before: no serial twice, each below
     /// `first_serial`, from which the serials go on, and within the bounds of the shelf and of the table's `max_store`.
-    pub fn with_store(alloc: Global, config: Config, shelf: S, first_serial: u64) -> Self
-        requires { StartIsValid (bounds_of config (S.limit shelf)) (Some first_serial) (S.entries shelf) }
+    pub fn with_store(alloc: Global, config: Table, shelf: S, first_serial: u64) -> Self
+        requires { StoreAtStartIsValid (bounds_of config (S.limit shelf)) (Some first_serial) (S.entries shelf) }
         ensures { result
             ≡ initial_state config (record { limit = S.limit shelf; entries = S.entries shelf }) first_serial }
     {
@@ -125,7 +125,7 @@ impl<S: Shelf> Core<S> {
 
     /// The shelf with what it holds, and the next serial if one is left: what another core may begin with, where no
     /// exchange is open.
-    pub fn into_shelf_and_serial(self) -> (S, Option<u64>)
+    pub fn into_shelf_and_next_serial(self) -> (S, Option<u64>)
         ensures entries { S.entries result.0 ≡ self.entries }
         ensures limit { S.limit result.0 ≡ self.limit }
         ensures next { result.1 ≡ self.next }
@@ -140,7 +140,7 @@ impl<S: Shelf> Core<S> {
     }
 
     /// The operator's table, as `new` was given it.
-    pub fn config(&self) -> &Config
+    pub fn config(&self) -> &Table
         ensures { result.now ≡ self.now.table }
     {
         &self.config
@@ -179,12 +179,13 @@ impl<S: Shelf> Core<S> {
     fn exchange_at(&self, now: u64, id: u64) -> Result<&Exchange, CoreFault>
         ensures found { IfOk result (λ x. find_exchange id self.now.exchanges ≡ Some x.now) }
         ensures moment { OnOk result (moment_too_late_fault now ≡ None) }
-        ensures err { IfErr result (λ fault. fault_at_moment (find_exchange id self.now.exchanges) now ≡ Some fault) }
+        ensures err { IfErr result
+            (λ fault. fault_of_exchange_or_moment (find_exchange id self.now.exchanges) now ≡ Some fault) }
     {
         let Some(x) = self.exchanges.find(id) else {
             return Err(CoreFault::UnknownId);
         };
-        match moment_fault(now) {
+        match fault_if_moment_too_late(now) {
             None => Ok(x),
             Some(fault) => Err(fault),
         }
@@ -228,7 +229,7 @@ impl<S: Shelf> Core<S> {
         match event {
             Event::Arrive(now, id, _) => match self.exchanges.find(*id) {
                 Some(_) => Some(CoreFault::IdTaken),
-                None => moment_fault(*now),
+                None => fault_if_moment_too_late(*now),
             },
             Event::Answer(now, id, _) => self.exchange_at_origin(*now, *id).err(),
             Event::Fail(now, id, _) => self.exchange_at_origin(*now, *id).err(),
@@ -269,7 +270,7 @@ impl<S: Shelf> Core<S> {
 
     /// A request has waited for another's answer as long as it is to wait: it may be woken from now on, as if its
     /// leader had ended, and others wait as before. Nothing is allocated.
-    pub fn overdue(&mut self, id: u64) -> Result<Outcome, CoreFault>
+    pub fn end_wait_on_timeout(&mut self, id: u64) -> Result<Outcome, CoreFault>
         ensures ok { IfOk result (λ outcome. StepIsAccepted self.old (Overdue id) outcome self.new) }
         ensures err { IfErr result (λ fault. step_fault self.old.exchanges (Overdue id) ≡ Some fault) }
         ensures unchanged { OnErr result (self.new ≡ self.old) }
@@ -277,7 +278,7 @@ impl<S: Shelf> Core<S> {
         match self.fault_of_overdue(id) {
             Some(fault) => Err(fault),
             None => {
-                self.exchanges.overdue(id);
+                self.exchanges.end_wait_on_timeout(id);
                 Ok(Outcome::WaitsNoMore)
             }
         }

@@ -4,9 +4,9 @@ ghost use Rattle.proxy_core.specs.TraceMeaning.{ExchangeIsOpenFromArrivalToEnd, 
 ghost use Rattle.proxy_core.specs.TraceMeaning.{OpenExchangeHasItsRequest, OpenExchangeKeepsItsRule};
 ghost use Rattle.proxy_core.specs.TraceMeaning.{ExchangeIsOvertakenWhereInvalidated, NextSerialIsFirstPlusStoredCount};
 ghost use Rattle.proxy_core.specs.TraceMeaning.{StoredResponseHasTheNextSerial, EventsDetermineTheTrace};
-ghost use Rattle.proxy_core.specs.TraceMeaning.{GoodOverSerialsIffGoodOverStoreList, TraceIsGoodOverStoreList};
-ghost use Rattle.proxy_core.specs.TraceMeaning.{CoreKeepsTheHeldResponses, CoreKeepsTheOpenExchanges};
-ghost use Rattle.proxy_core.specs.TraceMeaning.{CoreKeepsTheNextSerial};
+ghost use Rattle.proxy_core.specs.TraceMeaning.{GoodOverStoreListIsGoodOverSerials, GoodOverSerialsIsGoodOverStoreList};
+ghost use Rattle.proxy_core.specs.TraceMeaning.{CoreHasTheHeldResponsesOfItsTrace, CoreKeepsTheOpenExchanges};
+ghost use Rattle.proxy_core.specs.TraceMeaning.{CoreHasTheNextSerialOfItsTrace};
 ghost use Rattle.proxy_core.specs.Bounds.{WithoutByteBoundHeldIsByNumber, HeldResponsesAreWithinTheBounds};
 ghost use Rattle.proxy_core.specs.Bounds.{StoreChangesFollowFromOutcomes};
 ghost use Rattle.proxy_core.specs.Bounds.{StoredResponseIsHeldIfRoom, StoredWeighsNoMoreThanTheStore};
@@ -28,15 +28,15 @@ ghost use Rattle.proxy_core.specs.RangeReplies.{RequestWithoutSingleRangeGetsWho
 ghost use Rattle.proxy_core.specs.RangeReplies.{UnsatisfiableRangeOfStoredGets416};
 ghost use Rattle.proxy_core.specs.Restarts.{TraceSplitsAtARestart, RestartedTraceLeavesSameState};
 ghost use Rattle.proxy_core.specs.Restarts.{TracesAroundARestartJoin};
-ghost use Rattle.proxy_core.specs.Sending.{StoredResponseIsSentWhereItMayBe, StoredResponseIsSentNowhereElse};
+ghost use Rattle.proxy_core.specs.Sending.{StoredResponseIsSentWhereverItMayBe, StoredResponseIsSentOnlyWhereItMayBe};
 ghost use Rattle.proxy_core.specs.Sending.{SentReplyIsTheHeldResponse};
-ghost use Rattle.proxy_core.specs.Sending.{RequestIsForwardedWhereAllowed, RequestIsForwardedNowhereElse};
+ghost use Rattle.proxy_core.specs.Sending.{ArrivalIsForwardedWhereverItMayBe, ArrivalIsForwardedOnlyWhereItMayBe};
 ghost use Rattle.proxy_core.specs.Sending.{AllowedRequestReachesCacheOrOrigin};
 ghost use Rattle.proxy_core.specs.Sending.{RequestNotAllowedIsRefused, PurgeRemovesOrExpiresItsScope};
-ghost use Rattle.proxy_core.specs.Waiting.{RequestWaitsWhereALeaderIsOpen, RequestWaitsNowhereElse};
+ghost use Rattle.proxy_core.specs.Waiting.{RequestWaitsWhereALeaderIsOpen, RequestWaitsOnlyWhereALeaderIsOpen};
 ghost use Rattle.proxy_core.specs.Waiting.{OnlyOneGetPerKeyGoesForward};
 ghost use Rattle.proxy_core.specs.Waiting.{RequestWaitsUntilLeaderEndsOrTimeout};
-ghost use Rattle.proxy_core.specs.Waiting.{RequestIsWokenOnceAfterLeaderOrTimeout, TimeoutHappensExactlyToWaiters};
+ghost use Rattle.proxy_core.specs.Waiting.{RequestIsWokenOnceAfterLeaderOrTimeout, TimeoutIsAcceptedExactlyForWaiters};
 ghost use Rattle.proxy_core.specs.Waiting.{OverdueRequestMayBeWoken, FirstWaiterBecomesLeader};
 ghost use Rattle.proxy_core.specs.Waiting.{NoWaiterLeadsWhereNoneMay, NoWaiterLeadsWhereWaitsAreUnlimited};
 ghost use Rattle.proxy_core.specs.Waiting.{ReleasedAreInOrderOfArrival};
@@ -44,7 +44,7 @@ ghost use Rattle.proxy_core.specs.Waiting.{WakeIsAcceptedExactlyWhereReady, Woke
 ghost use Rattle.proxy_core.specs.Waiting.{LineWithoutWaitWaitsForMissesOnly};
 ghost use Rattle.proxy_core.specs.Awaiting.{WaiterIsServedUnlessTheResponseForbids};
 ghost use Rattle.proxy_core.specs.StoredAnswers.{ItemRemovesExactlyWhatItMust, ItemPurgesWhereItsRequestPurges};
-ghost use Rattle.proxy_core.specs.StoredAnswers.{ItemExpiresExactlyWhatItMust, NothingElseIsStored};
+ghost use Rattle.proxy_core.specs.StoredAnswers.{ItemExpiresExactlyWhatItMust, OnlyWhatMayBeStoredIsStored};
 ghost use Rattle.proxy_core.specs.StoredAnswers.{AnswerIsStoredWhereItMayBe, FreshenedIsKeptWhereAllowed};
 ghost use Rattle.proxy_core.specs.StoredAnswers.{NothingElseFreshenedIsKept};
 ghost use Rattle.proxy_core.specs.Uncached.{NothingIsStoredOverUncachedLine, NothingStoredIsSentOverUncachedLine};
@@ -69,7 +69,7 @@ pub use bound_cases::{
     worked_answers_too_large_for_the_store, worked_store_at_the_start,
     worked_store_bounded_by_bytes, worked_weights_of_answers,
 };
-pub use cookie_cases::{worked_cookies_that_are_sent, worked_cookies_that_are_stored};
+pub use cookie_cases::{worked_cookies_removed_on_storing, worked_cookies_that_are_sent};
 pub use event_cases::{worked_counts_of_traces, worked_kinds_of_events, worked_kinds_of_outcomes};
 pub use headline_cases::{
     the_headline_refuses_altered_requests, the_headline_refuses_impossible_events,
@@ -87,20 +87,21 @@ pub use promise_cases::{
     worked_invalidations_by_tag, worked_requests_that_go_forward,
 };
 pub use purge_cases::{
-    a_purge_takes_what_is_within_its_scope, worked_purge_scopes, worked_purges_with_a_tag,
+    a_purge_selects_what_is_within_its_scope, worked_purge_scopes, worked_purges_with_a_tag,
 };
 pub use purged_cases::worked_ttl_after_a_purge;
 pub use range_cases::{worked_parts_of_answers, worked_ranges_that_lead};
 pub use tag_cases::{
-    hidden_tags_are_never_sent, worked_tags_of_parts, worked_tags_that_are_hidden,
+    hidden_tags_are_never_sent, worked_tags_of_partial_replies, worked_tags_that_are_hidden,
 };
 pub use worked_cases::{
-    worked_304_asked_for, worked_error_statuses, worked_fallbacks_after_failure,
-    worked_invalidating_answers, worked_leaders_for_stale_responses, worked_leaders_of_requests,
+    worked_304_asked_for, worked_fallbacks_after_failure, worked_invalidating_answers,
+    worked_leaders_for_stale_responses, worked_leaders_of_requests,
     worked_open_exchanges_after_a_step, worked_outcomes_of_answers, worked_outcomes_of_arrivals,
-    worked_passed_answers, worked_requests_that_do_not_wait, worked_step_faults_and_serials,
-    worked_storable_answers, worked_stored_replies, worked_stored_responses,
-    worked_stored_responses_after_a_304, worked_stored_responses_after_a_step,
+    worked_passed_answers, worked_requests_that_do_not_wait, worked_stale_if_error_statuses,
+    worked_step_faults_and_serials, worked_storable_answers, worked_stored_replies,
+    worked_stored_responses, worked_stored_responses_after_a_304,
+    worked_stored_responses_after_a_step,
 };
 
 /// After a good trace an exchange is open from its arrival to its end and not else, with the
@@ -139,11 +140,11 @@ pub fn events_determine_the_good_trace()
 /// The list that a core keeps has exactly what is held by the count over its history, so a trace is good over the one
 /// where it is good over the other.
 pub fn a_cores_entries_are_the_held_responses()
-    ensures held { GoodOverSerialsIffGoodOverStoreList }
-    ensures listed { TraceIsGoodOverStoreList }
-    ensures entries { CoreKeepsTheHeldResponses }
+    ensures held { GoodOverStoreListIsGoodOverSerials }
+    ensures listed { GoodOverSerialsIsGoodOverStoreList }
+    ensures entries { CoreHasTheHeldResponsesOfItsTrace }
     ensures exchanges { CoreKeepsTheOpenExchanges }
-    ensures next { CoreKeepsTheNextSerial }
+    ensures next { CoreHasTheNextSerialOfItsTrace }
 {}
 
 /// What is held is within both bounds of the store at each moment. What is stored weighs no more than the store may,
@@ -159,8 +160,8 @@ pub fn held_responses_are_within_the_bounds()
 /// In a good trace a request goes to the origin of a line exactly where the table allows it by that line, a rule stands
 /// against a stored response, and the request takes others too.
 pub fn a_request_goes_forward_where_it_is_allowed()
-    ensures every { RequestIsForwardedWhereAllowed }
-    ensures only { RequestIsForwardedNowhereElse }
+    ensures every { ArrivalIsForwardedWhereverItMayBe }
+    ensures only { ArrivalIsForwardedOnlyWhereItMayBe }
 {}
 
 /// In a good trace a request reaches cache or origin exactly where the table allows it, and the cache alone where it
@@ -175,8 +176,8 @@ pub fn a_request_reaches_cache_or_origin_where_it_is_allowed()
 /// lets be reused for that request then, that a 304 validates, or that RFC 5861, section 4 lets be
 /// sent in place of an error. What is sent is that response.
 pub fn a_stored_response_is_sent_where_one_may_be()
-    ensures every { StoredResponseIsSentWhereItMayBe }
-    ensures only { StoredResponseIsSentNowhereElse }
+    ensures every { StoredResponseIsSentWhereverItMayBe }
+    ensures only { StoredResponseIsSentOnlyWhereItMayBe }
     ensures itself { SentReplyIsTheHeldResponse }
 {}
 
@@ -215,7 +216,7 @@ pub fn a_line_without_cache_touches_no_stored_response()
 /// sends forward, as a GET with Range, doesn't wait.
 pub fn requests_for_one_target_wait_for_the_first()
     ensures waits { RequestWaitsWhereALeaderIsOpen }
-    ensures only { RequestWaitsNowhereElse }
+    ensures only { RequestWaitsOnlyWhereALeaderIsOpen }
     ensures one { OnlyOneGetPerKeyGoesForward }
 {}
 
@@ -258,7 +259,7 @@ pub fn the_first_that_waits_leads_on()
 /// In a good trace the time to wait is over of a request that waits for the answer to another, and of no other. Then it
 /// may be woken, and nothing else has changed: who waits beside it waits on, and nothing is sent yet.
 pub fn an_overdue_request_may_be_woken()
-    ensures waits { TimeoutHappensExactlyToWaiters }
+    ensures waits { TimeoutIsAcceptedExactlyForWaiters }
     ensures released { OverdueRequestMayBeWoken }
 {}
 
@@ -269,7 +270,7 @@ pub fn an_overdue_request_may_be_woken()
 /// expires it instead where it says so.
 pub fn an_answer_is_stored_where_it_may_be()
     ensures every { AnswerIsStoredWhereItMayBe }
-    ensures only { NothingElseIsStored }
+    ensures only { OnlyWhatMayBeStoredIsStored }
     ensures removed { ItemRemovesExactlyWhatItMust }
     ensures purges { ItemPurgesWhereItsRequestPurges }
     ensures expired { ItemExpiresExactlyWhatItMust }

@@ -43,4 +43,4 @@ pub use crate::replies::reply_text::{is_head, refused};
 pub use crate::replies::stored_reply::ReplyTextAndAbout;
 pub use crate::runs::run;
 pub use crate::steps::condition::Condition;
-pub use crate::steps::fallback::Fallback;
+pub use crate::steps::fallback::FallbackDecision;

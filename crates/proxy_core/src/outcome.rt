@@ -1,7 +1,7 @@
 //! What a step gives.
 
 use crate::core_fault::CoreFault;
-use hx_allow::RequestRoute;
+use hx_allow::RouteOverLine;
 use hx_fields::Bytes;
 use hx_hop::Asked;
 use hx_status::StatusAndReason;
@@ -33,7 +33,7 @@ pub struct Reply {
 pub enum Outcome {
     Reply(Reply),
     /// A request for the origin of this line of the table.
-    Forward(RequestRoute, Bytes),
+    Forward(RouteOverLine, Bytes),
     /// The request waits for the answer to the exchange of this id.
     Waits(u64),
     /// The exchange was abandoned.

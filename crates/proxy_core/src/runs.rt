@@ -10,7 +10,7 @@ use crate::core_fault::CoreFault;
 use crate::core_state::Core;
 use crate::event::Event;
 use crate::outcome::{Outcome, Run};
-use hx_allow::Config;
+use hx_allow::Table;
 use hx_store::Shelf;
 use std::alloc::Global;
 
@@ -29,7 +29,7 @@ impl<S: Shelf> Core<S> {
             Event::Fail(now, id, kind) => Ok(self.fail(alloc, *now, *id, *kind)?.outcome),
             Event::Wake(now, id) => Ok(self.wake(alloc, *now, *id)?.outcome),
             Event::Abandon(id) => self.abandon(*id),
-            Event::Overdue(id) => self.overdue(*id),
+            Event::Overdue(id) => self.end_wait_on_timeout(*id),
         }
     }
 }
@@ -38,7 +38,7 @@ impl<S: Shelf> Core<S> {
 /// serials begin at `first_serial`, 1 or more. Out of memory is one of the faults; the outcomes so far stand.
 pub fn run<S: Shelf + Drop>(
     alloc: Global,
-    config: Config,
+    config: Table,
     shelf: S,
     first_serial: u64,
     events: &[Event],

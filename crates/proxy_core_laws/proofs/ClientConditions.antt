@@ -7,12 +7,12 @@ use Rattle.std.proofs.lemmas.List.Folds.{Any-from_list_any, list_any-from_Any}
 use Rattle.std.proofs.lemmas.Slice.Eq.{bytes_eq-Decides}
 use Rattle.hx_fields.specs.Line.{Field}
 use Rattle.hx_fields.specs.FieldLines.{combined_of, has_field, members_of, values_of}
-use Rattle.hx_age.specs.Dates.{single_valid_date}
+use Rattle.hx_age.specs.Dates.{moment_of_single_date}
 use Rattle.hx_store.specs.Stored.{Stored}
 use Rattle.hx_validate.specs.EntityTags.{EntityTagParts, both_are_tags_that_compare, entity_tag_of, are_weakly_equal}
-use Rattle.hx_validate.specs.NotModified.{last_modified_or_date, etag_of_fields, moment_is_not_before, is_weakly_equal_tag, is_whole_value, if_none_match_lists, if_none_match_matches_fields, is_unmodified_since}
+use Rattle.hx_validate.specs.NotModified.{last_modified_or_date, etag_of_fields, moment_is_not_before, is_weakly_equal_tag, value_equals_text, if_none_match_lists, if_none_match_matches_fields, is_unmodified_by_if_modified_since}
 use Rattle.hx_validate.specs.Validators.{etag_validator}
-use Rattle.proxy_core_laws.specs.ClientConditions.{OnlyMatchingConditionGetsA304, MetConditionGetsA304, StoredResponseLastChangedAt, IfModifiedSinceFails, IfNoneMatchFails, TagIsWeaklyEqual, IfNoneMatchListsTag}
+use Rattle.proxy_core_laws.specs.ClientConditions.{OnlyFailedConditionGetsA304, FailedConditionGetsA304, StoredResponseLastChangedAt, IfModifiedSinceFails, IfNoneMatchFails, TagIsWeaklyEqual, IfNoneMatchListsTag}
 use Rattle.proxy_core_laws.proofs.Words.{both_are, one_of}
 
 -- ---- tags
@@ -48,20 +48,20 @@ module _ (request : List Field) where
       ap (λ (o : Option (List ℕ)). if_none_match_lists request (option_and_then entity_tag_of o)) value_is ∙ ap (if_none_match_lists request) held_is
       ∙ equal_any held (members_of request (codes "If-None-Match")) any
 
-  vary_is_star : (o : Option (List ℕ)) → is_whole_value (codes "*") o ≡ true → o ≡ Some (codes "*")
+  vary_is_star : (o : Option (List ℕ)) → value_equals_text (codes "*") o ≡ true → o ≡ Some (codes "*")
   vary_is_star None h = absurd cc
   vary_is_star (Some v) h = ap (λ (t : List ℕ). Some t) ((bytes_eq-Decides v (codes "*")).0 h)
 
   none_match : (stored : List Field) → if_none_match_matches_fields request stored ≡ true → IfNoneMatchFails request stored
-  none_match stored h = by_part (one_of (is_whole_value (codes "*") (combined_of request (codes "If-None-Match"))) (if_none_match_lists request (etag_of_fields stored)) h)
+  none_match stored h = by_part (one_of (value_equals_text (codes "*") (combined_of request (codes "If-None-Match"))) (if_none_match_lists request (etag_of_fields stored)) h)
     where
-      by_part : (is_whole_value (codes "*") (combined_of request (codes "If-None-Match")) ≡ true) ⊎ (if_none_match_lists request (etag_of_fields stored) ≡ true) → IfNoneMatchFails request stored
+      by_part : (value_equals_text (codes "*") (combined_of request (codes "If-None-Match")) ≡ true) ⊎ (if_none_match_lists request (etag_of_fields stored) ≡ true) → IfNoneMatchFails request stored
       by_part (inl star) = inl (vary_is_star (combined_of request (codes "If-None-Match")) star)
       by_part (inr tag) = inr (lists (etag_validator stored) tag)
 
   names : (stored : List Field) → IfNoneMatchFails request stored → if_none_match_matches_fields request stored ≡ true
-  names stored (inl star) = ap (λ (o : Option (List ℕ)). is_whole_value (codes "*") o || if_none_match_lists request (etag_of_fields stored)) star
-  names stored (inr tag) = last (is_whole_value (codes "*") (combined_of request (codes "If-None-Match"))) (is_listed stored tag)
+  names stored (inl star) = ap (λ (o : Option (List ℕ)). value_equals_text (codes "*") o || if_none_match_lists request (etag_of_fields stored)) star
+  names stored (inr tag) = last (value_equals_text (codes "*") (combined_of request (codes "If-None-Match"))) (is_listed stored tag)
     where
       last : (a : Bool) → if_none_match_lists request (etag_of_fields stored) ≡ true → a || if_none_match_lists request (etag_of_fields stored) ≡ true
       last true h = refl
@@ -70,9 +70,9 @@ module _ (request : List Field) where
   -- ---- moments
 
   changed : (entry : Stored) → StoredResponseLastChangedAt entry (last_modified_or_date entry)
-  changed entry = by_date (single_valid_date (values_of entry.fields (codes "Last-Modified"))) refl
+  changed entry = by_date (moment_of_single_date (values_of entry.fields (codes "Last-Modified"))) refl
     where
-      by_date : (o : Option ℕ) → single_valid_date (values_of entry.fields (codes "Last-Modified")) ≡ o → StoredResponseLastChangedAt entry (unwrap_or o entry.times.date)
+      by_date : (o : Option ℕ) → moment_of_single_date (values_of entry.fields (codes "Last-Modified")) ≡ o → StoredResponseLastChangedAt entry (unwrap_or o entry.times.date)
       by_date None is = inr (is, refl)
       by_date (Some m) is = inl is
 
@@ -80,31 +80,31 @@ module _ (request : List Field) where
   change_is entry moment (inl is) = ap (λ (o : Option ℕ). unwrap_or o entry.times.date) is
   change_is entry moment (inr (none, date)) = ap (λ (o : Option ℕ). unwrap_or o entry.times.date) none ∙ date
 
-  modified : (entry : Stored) → is_unmodified_since request entry ≡ true → IfModifiedSinceFails request entry
-  modified entry h = by_date (single_valid_date (values_of request (codes "If-Modified-Since"))) refl h
+  modified : (entry : Stored) → is_unmodified_by_if_modified_since request entry ≡ true → IfModifiedSinceFails request entry
+  modified entry h = by_date (moment_of_single_date (values_of request (codes "If-Modified-Since"))) refl h
     where
-      by_date : (o : Option ℕ) → single_valid_date (values_of request (codes "If-Modified-Since")) ≡ o → moment_is_not_before o (last_modified_or_date entry) ≡ true → IfModifiedSinceFails request entry
+      by_date : (o : Option ℕ) → moment_of_single_date (values_of request (codes "If-Modified-Since")) ≡ o → moment_is_not_before o (last_modified_or_date entry) ≡ true → IfModifiedSinceFails request entry
       by_date None is k = absurd cc
       by_date (Some since) is k = (since, last_modified_or_date entry, is, changed entry, leb-true (last_modified_or_date entry) since k)
 
-  since : (entry : Stored) → IfModifiedSinceFails request entry → is_unmodified_since request entry ≡ true
+  since : (entry : Stored) → IfModifiedSinceFails request entry → is_unmodified_by_if_modified_since request entry ≡ true
   since entry (moment, at, is, changed_then, low) =
       ap (λ (o : Option ℕ). moment_is_not_before o (last_modified_or_date entry)) is ∙ ap (λ (n : ℕ). nat_le n moment) (change_is entry at changed_then) ∙ le-leb at moment low
 
 -- ---- the laws
 
-pub answers_the_condition : MetConditionGetsA304
+pub answers_the_condition : FailedConditionGetsA304
 answers_the_condition asked entry (status, inl (applies, fails)) =
     rw (eq-eqb entry.status 200 status, applies) (names asked.fields entry.fields fails)
 answers_the_condition asked entry (status, inr (absent, fails)) =
     rw (eq-eqb entry.status 200 status, absent) (since asked.fields entry fails)
 
-pub answers_no_other : OnlyMatchingConditionGetsA304
+pub answers_no_other : OnlyFailedConditionGetsA304
 answers_no_other asked entry h =
-    let parts = both_are (entry.status == 200) (cond (has_field asked.fields (codes "If-None-Match")) (if_none_match_matches_fields asked.fields entry.fields) (is_unmodified_since asked.fields entry)) h in
+    let parts = both_are (entry.status == 200) (cond (has_field asked.fields (codes "If-None-Match")) (if_none_match_matches_fields asked.fields entry.fields) (is_unmodified_by_if_modified_since asked.fields entry)) h in
     (eqb-true entry.status 200 parts.0, by_field (has_field asked.fields (codes "If-None-Match")) refl parts.1)
   where
-    by_field : (t : Bool) → has_field asked.fields (codes "If-None-Match") ≡ t → cond t (if_none_match_matches_fields asked.fields entry.fields) (is_unmodified_since asked.fields entry) ≡ true
+    by_field : (t : Bool) → has_field asked.fields (codes "If-None-Match") ≡ t → cond t (if_none_match_matches_fields asked.fields entry.fields) (is_unmodified_by_if_modified_since asked.fields entry) ≡ true
         → ((has_field asked.fields (codes "If-None-Match") ≡ true) × IfNoneMatchFails asked.fields entry.fields)
         ⊎ ((has_field asked.fields (codes "If-None-Match") ≡ false) × IfModifiedSinceFails asked.fields entry)
     by_field true is k = inl (is, none_match asked.fields entry.fields k)

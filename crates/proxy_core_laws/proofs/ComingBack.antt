@@ -14,14 +14,14 @@ use Rattle.hx_hop.specs.declared.request_view.Asked.{Asked}
 use Rattle.hx_hop.specs.Forwarding.{forwarded_client_lines, condition_lines, forwarded_of, host_text, line, via_text}
 use Rattle.hx_allow.specs.Matching.{policy_of}
 use Rattle.hx_allow.specs.Tables.{is_name, is_name_byte}
-use Rattle.hx_allow.specs.Via.{times_in_via, times_in_via_line, is_via_byte, is_via_word, is_via_member, ViaMember}
+use Rattle.hx_allow.specs.Via.{times_in_via, times_in_via_line, is_via_byte, is_word_of_via_bytes, is_wellformed_via_member, ViaMember}
 use Rattle.hx_allow.specs.declared.verdicts.Verdict.TheVariants as verdict
 use Rattle.hx_allow.proofs.Loops.{times_together}
 use Rattle.hx_allow.proofs.ViaWritten.{times_written}
 use Rattle.proxy_core.specs.declared.open.awaited.Awaited.{Awaited}
 use Rattle.proxy_core.specs.declared.open.exchange.Exchange.{Exchange}
 use Rattle.proxy_core.specs.declared.event.Event.TheVariants.{Arrive}
-use Rattle.proxy_core.specs.Allowing.{verdict_of_asked, came_back, exchanges_to_wait_for}
+use Rattle.proxy_core.specs.Allowing.{verdict_of_asked, is_refused_as_loop, exchanges_to_wait_for}
 use Rattle.proxy_core.specs.Leading.{IsFirstLeader}
 use Rattle.proxy_core.specs.Histories.{open_exchanges}
 use Rattle.proxy_core.proofs.Waits.{waits_nowhere_else}
@@ -43,7 +43,7 @@ who_came_back_waits_for_nobody table start first now id line l asked item past g
     let asked_is : asked ≡ w.asked = cc in
     let one_line : verdict.Allowed line ≡ verdict.Allowed w.line = sym allowed ∙ ap (verdict_of_asked table) asked_is ∙ w.could.line_allows in
     let line_is : line ≡ w.line = cc in
-    let again : came_back table w.line w.asked ≡ true = subst (λ n. came_back table n w.asked ≡ true) line_is (subst (λ (q : Asked). came_back table line q ≡ true) asked_is back) in
+    let again : is_refused_as_loop table w.line w.asked ≡ true = subst (λ n. is_refused_as_loop table n w.asked ≡ true) line_is (subst (λ (q : Asked). is_refused_as_loop table line q ≡ true) asked_is back) in
     let nobody : exchanges_to_wait_for table w.line w.asked (open_exchanges table start past) ≡ [] = ap (λ b. cond b [] (open_exchanges table start past)) again in
     nobody_leads (policy_of table.lines w.line) w.awaited w.asked l (subst (λ (xs : List Exchange). IsFirstLeader (policy_of table.lines w.line) w.awaited w.asked xs l) nobody w.first_leads)
 
@@ -63,7 +63,7 @@ and_both true true h k = refl
 and_both true false h k = k
 and_both false b h k = h
 
-name_is_word : (name : List ℕ) → is_name name ≡ true → is_via_word name ≡ true
+name_is_word : (name : List ℕ) → is_name name ≡ true → is_word_of_via_bytes name ≡ true
 unfolding is_name
 name_is_word [] h = absurd (by_test (nat_le 0 32) h)
   where
@@ -87,7 +87,7 @@ module _ (name : List ℕ) (is : is_name name ≡ true) where
   own_member : List ℕ → ViaMember
   own_member protocol = record { before = []; protocol = protocol; between = codes " "; by = name; comment = None; after = [] }
 
-  named_once : (protocol : List ℕ) → is_via_member (own_member protocol) ≡ true → times_in_via_line name (protocol ++ (codes " " ++ name)) ≡ 1
+  named_once : (protocol : List ℕ) → is_wellformed_via_member (own_member protocol) ≡ true → times_in_via_line name (protocol ++ (codes " " ++ name)) ≡ 1
   unfolding own_member
   named_once protocol valid =
       let same : is_same_name name name ≡ true = bytes_eq-refl (str_to_ascii_lowercase name) in
@@ -101,8 +101,8 @@ module _ (name : List ℕ) (is : is_name name ≡ true) where
   own_via_names_it minor = by_version (minor == 0)
     where
       by_version : (old : Bool) → times_in_via_line name (cond old (codes "1.0 ") (codes "1.1 ") ++ name) ≡ 1
-      by_version true = named_once (codes "1.0") (and_two (is_via_word name) (name_is_word name is))
-      by_version false = named_once (codes "1.1") (and_two (is_via_word name) (name_is_word name is))
+      by_version true = named_once (codes "1.0") (and_two (is_word_of_via_bytes name) (name_is_word name is))
+      by_version false = named_once (codes "1.1") (and_two (is_word_of_via_bytes name) (name_is_word name is))
 
 pub each_pass_is_named : EachForwardAddsOneVia
 unfolding forwarded_of

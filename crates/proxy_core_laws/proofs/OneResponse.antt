@@ -8,7 +8,7 @@ use Rattle.std.proofs.lemmas.List.Folds.{list_any-append}
 use Rattle.httparse.specs.Grammar.{is_token_byte, IsToken}
 use Rattle.hx_framing.specs.declared.frame_fault.FrameFault.{FrameFault}
 use Rattle.hx_framing.specs.declared.frame_fault.FrameFault.TheVariants as frame
-use Rattle.hx_fields.specs.declared.limits.TheConstants.{END_OF_TIME}
+use Rattle.hx_fields.specs.declared.limits.TheConstants.{START_OF_YEAR_10000}
 use Rattle.hx_fields.specs.Line.{Field}
 use Rattle.hx_fields.specs.FieldLines.{has_field, is_named, without_named}
 use Rattle.hx_framing.specs.declared.messages.Response.{Response}
@@ -39,7 +39,7 @@ use Rattle.hx_policy.specs.declared.words.Policy.{Policy}
 use Rattle.hx_storable.specs.declared.rule.StoreRule.{StoreRule}
 use Rattle.hx_validate.specs.NotModified.{is_field_of_304_to_answer}
 use Rattle.proxy_core.specs.declared.open.exchange.Exchange.{Exchange}
-use Rattle.proxy_core.specs.Replies.{fields_without_hidden_tags, content_unless_head, is_head, line, cache_status_of_passed_answer, cache_status_in_place_of_answer, client_wants_304_for_answer, not_modified_answer_text, whole_answer_text, answer_in_range_text, fields_of_answer_416, fields_of_partial_answer, range_of_answer, text_in_place_of_answer}
+use Rattle.proxy_core.specs.Replies.{fields_without_hidden_tags, content_unless_head, is_head, line, cache_status_of_passed_answer, cache_status_in_place_of_answer, client_wants_304_for_answer, not_modified_answer_text, whole_answer_text, text_of_answer_or_its_range, fields_of_answer_416, fields_of_partial_answer, part_of_answer_to_send, text_in_place_of_answer}
 use Rattle.hx_validate.specs.Ranges.{is_field_of_416_to_answer, part_text, unsatisfied_text}
 use Rattle.hx_validate.specs.Room.{head_leaves_room}
 use Rattle.hx_validate.specs.declared.ranges.RangeAnswer.{RangeAnswer}
@@ -72,7 +72,7 @@ plain_text = plain_value
 
 -- An answer that was read, of a HEAD or not, is one response where it goes on to a HEAD or not (h: it was read so, g: it goes on so).
 module _ (hides h g ended close : Bool) (max_body most now : ℕ) (bytes rest : List ℕ) (r : Response) (added : List Field) (are : AddedLinesAreWritable added) where
-  goes_on : ReadsAs max_body h ended bytes (Spelled r rest) → now < END_OF_TIME → most < 2 ^ 64 → ResponseIsWithinReaderLimits most (answer_passed_on hides g r now added close) → (over : Bool) (behind : List ℕ)
+  goes_on : ReadsAs max_body h ended bytes (Spelled r rest) → now < START_OF_YEAR_10000 → most < 2 ^ 64 → ResponseIsWithinReaderLimits most (answer_passed_on hides g r now added close) → (over : Bool) (behind : List ℕ)
       → ReadsAs most g over (sent_response_text (answer_passed_on hides g r now added close) ++ behind) (Spelled (response_as_read_back g (answer_passed_on hides g r now added close)) behind)
   goes_on reads early small limits over behind =
       let is = clean max_body h ended bytes r rest reads in
@@ -124,7 +124,7 @@ module _ (hides h g ended close : Bool) (max_body most now : ℕ) (bytes rest : 
 
 -- the answer whole
 module _ (max_body most now : ℕ) (to_head ended stored : Bool) (bytes rest name : List ℕ) (policy : Policy) (rule : Option StoreRule) (x : Exchange) (r : Response) where
-  whole_response : ReadsAs max_body to_head ended bytes (Spelled r rest) → now < END_OF_TIME → IsToken name → most < 2 ^ 64 → ResponseIsWithinReaderLimits most (whole_answer_as_sent policy name x r now stored rule)
+  whole_response : ReadsAs max_body to_head ended bytes (Spelled r rest) → now < START_OF_YEAR_10000 → IsToken name → most < 2 ^ 64 → ResponseIsWithinReaderLimits most (whole_answer_as_sent policy name x r now stored rule)
       → (over : Bool) (behind : List ℕ) → ReadsAs most (is_head x.asked) over (whole_answer_text policy name x r now stored rule ++ behind)
       (Spelled (response_as_read_back (is_head x.asked) (whole_answer_as_sent policy name x r now stored rule)) behind)
   whole_response reads early token small limits over behind =
@@ -137,7 +137,7 @@ module _ (max_body most now : ℕ) (to_head ended stored : Bool) (bytes rest nam
       }) reads early small limits over behind
 
   -- a 304 in its place
-  not_modified_response : ReadsAs max_body to_head ended bytes (Spelled r rest) → now < END_OF_TIME → IsToken name → ResponseIsWithinReaderLimits most (not_modified_answer_as_sent policy name x r now stored rule)
+  not_modified_response : ReadsAs max_body to_head ended bytes (Spelled r rest) → now < START_OF_YEAR_10000 → IsToken name → ResponseIsWithinReaderLimits most (not_modified_answer_as_sent policy name x r now stored rule)
       → (over : Bool) (behind : List ℕ) → ReadsAs most (is_head x.asked) over (not_modified_answer_text policy name x r now stored rule ++ behind)
       (Spelled (response_as_read_back (is_head x.asked) (not_modified_answer_as_sent policy name x r now stored rule)) behind)
   not_modified_response reads early token limits over behind =
@@ -178,7 +178,7 @@ module _ (max_body most now : ℕ) (to_head ended stored : Bool) (bytes rest nam
       never false some = cc
 
 -- a part of it, or that there is none
-module _ (max_body most now : ℕ) (to_head ended stored : Bool) (bytes rest name : List ℕ) (policy : Policy) (rule : Option StoreRule) (x : Exchange) (r : Response) (reads : ReadsAs max_body to_head ended bytes (Spelled r rest)) (early : now < END_OF_TIME) (token : IsToken name) (small : most < 2 ^ 64) (over : Bool) (behind : List ℕ) where
+module _ (max_body most now : ℕ) (to_head ended stored : Bool) (bytes rest name : List ℕ) (policy : Policy) (rule : Option StoreRule) (x : Exchange) (r : Response) (reads : ReadsAs max_body to_head ended bytes (Spelled r rest)) (early : now < START_OF_YEAR_10000) (token : IsToken name) (small : most < 2 ^ 64) (over : Bool) (behind : List ℕ) where
   abbrev is_read_back : SentResponse → List ℕ → Type 0
   is_read_back sent text = ResponseIsWithinReaderLimits most sent → ReadsAs most (is_head x.asked) over (text ++ behind) (Spelled (response_as_read_back (is_head x.asked) sent) behind)
 
@@ -244,7 +244,7 @@ module _ (max_body most now : ℕ) (to_head ended stored : Bool) (bytes rest nam
       (none_beside carried value (codes "content-length") (list_any_fewer is_field_of_416_to_answer (is_named (codes "content-length")) all_lines (none_of_all (codes "content-length") is.lengths refl)) refl)
       (none_beside carried value (codes "transfer-encoding") (list_any_fewer is_field_of_416_to_answer (is_named (codes "transfer-encoding")) all_lines (none_of_all (codes "transfer-encoding") is.codings refl)) refl)
 
-  in_range_one : (answer : RangeAnswer) → range_of_answer policy x r now ≡ answer → is_read_back (partial_answer_as_sent policy name x r now stored rule answer) (answer_in_range_text policy name x r now stored rule answer)
+  in_range_one : (answer : RangeAnswer) → part_of_answer_to_send policy x r now ≡ answer → is_read_back (partial_answer_as_sent policy name x r now stored rule answer) (text_of_answer_or_its_range policy name x r now stored rule answer)
   in_range_one Whole e = whole_one
   in_range_one (Part first last) e = by_room (head_leaves_room (fields_of_partial_answer r now first last))
     where
@@ -269,11 +269,11 @@ pub passes_one_response : PassedAnswerIsOneResponse
 passes_one_response max_body most now to_head ended stored bytes rest name policy rule x r reads early token small limits over behind =
     by_test (client_wants_304_for_answer policy x r now) limits
   where
-    by_test : (has : Bool) → ResponseIsWithinReaderLimits most (cond has (not_modified_answer_as_sent policy name x r now stored rule) (partial_answer_as_sent policy name x r now stored rule (range_of_answer policy x r now)))
-        → ReadsAs most (is_head x.asked) over (cond has (not_modified_answer_text policy name x r now stored rule) (answer_in_range_text policy name x r now stored rule (range_of_answer policy x r now)) ++ behind)
-        (Spelled (response_as_read_back (is_head x.asked) (cond has (not_modified_answer_as_sent policy name x r now stored rule) (partial_answer_as_sent policy name x r now stored rule (range_of_answer policy x r now)))) behind)
+    by_test : (has : Bool) → ResponseIsWithinReaderLimits most (cond has (not_modified_answer_as_sent policy name x r now stored rule) (partial_answer_as_sent policy name x r now stored rule (part_of_answer_to_send policy x r now)))
+        → ReadsAs most (is_head x.asked) over (cond has (not_modified_answer_text policy name x r now stored rule) (text_of_answer_or_its_range policy name x r now stored rule (part_of_answer_to_send policy x r now)) ++ behind)
+        (Spelled (response_as_read_back (is_head x.asked) (cond has (not_modified_answer_as_sent policy name x r now stored rule) (partial_answer_as_sent policy name x r now stored rule (part_of_answer_to_send policy x r now)))) behind)
     by_test true limits = not_modified_response max_body most now to_head ended stored bytes rest name policy rule x r reads early token limits over behind
-    by_test false limits = in_range_one max_body most now to_head ended stored bytes rest name policy rule x r reads early token small over behind (range_of_answer policy x r now) refl limits
+    by_test false limits = in_range_one max_body most now to_head ended stored bytes rest name policy rule x r reads early token small over behind (part_of_answer_to_send policy x r now) refl limits
 
 -- ---- the proxy's own
 

@@ -7,8 +7,8 @@ use Rattle.hx_fields.specs.Line.{Field}
 use Rattle.hx_fields.specs.FieldLines.{is_named, values_of}
 use Rattle.hx_fields.specs.Names.{is_same_name, joined_lists, members_of_value}
 use Rattle.hx_hop.proofs.Lines.{filter_keeps, same_lower}
-use Rattle.hx_vary.specs.Vary.{exceeds_most_vary_names, vary_is_star, is_star_member}
-use Rattle.proxy_core.specs.Validating.{without_cookies}
+use Rattle.hx_vary.specs.Vary.{exceeds_most_vary_names, vary_counts_as_star, is_star_member}
+use Rattle.proxy_core.specs.Validating.{without_set_cookie_if}
 
 abbrev pub cookie : List ℕ
 cookie = codes "Set-Cookie"
@@ -23,10 +23,10 @@ other_name name f isnt is = other_than cookie name f isnt is
 stays_there : (name : List ℕ) (f : Field) → is_same_name name cookie ≡ false → is_named name f ≡ true → not (is_named cookie f) ≡ true
 stays_there name f isnt is = ap not (ap (λ low. bytes_eq low (str_to_ascii_lowercase cookie)) (same_lower f.name name is) ∙ isnt)
 
-values_stay : (removes : Bool) (fields : List Field) → values_of (without_cookies removes fields) (codes "Vary") ≡ values_of fields (codes "Vary")
+values_stay : (removes : Bool) (fields : List Field) → values_of (without_set_cookie_if removes fields) (codes "Vary") ≡ values_of fields (codes "Vary")
 values_stay true fields = ap (map (λ (f : Field). f.value)) (filter_keeps (λ f. not (is_named cookie f)) (is_named (codes "Vary")) (λ f is. stays_there (codes "Vary") f refl is) fields)
 values_stay false fields = refl
 
-pub star_stays : (removes : Bool) (fields : List Field) → vary_is_star (without_cookies removes fields) ≡ vary_is_star fields
+pub star_stays : (removes : Bool) (fields : List Field) → vary_counts_as_star (without_set_cookie_if removes fields) ≡ vary_counts_as_star fields
 star_stays removes fields =
     ap (λ (values : List (List ℕ)). exceeds_most_vary_names (joined_lists (map members_of_value values)) || list_any is_star_member (joined_lists (map members_of_value values))) (values_stay removes fields)

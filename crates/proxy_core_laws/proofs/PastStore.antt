@@ -5,7 +5,7 @@ use Rattle.hx_hop.specs.declared.request_view.Asked.{Asked}
 use Rattle.hx_target.specs.Keys.{same_key}
 use Rattle.hx_allow.specs.Matching.{policy_of}
 use Rattle.hx_allow.specs.TableLines.{Table}
-use Rattle.hx_allow.specs.declared.verdicts.RequestRoute.{RequestRoute}
+use Rattle.hx_allow.specs.declared.verdicts.RouteOverLine.{RouteOverLine}
 use Rattle.hx_allow.specs.declared.verdicts.Verdict.TheVariants as verdict
 use Rattle.hx_allow.proofs.Sessions.{by_its_cookies}
 use Rattle.hx_reuse.specs.Rules.{decision_of}
@@ -21,22 +21,22 @@ use Rattle.proxy_core.specs.declared.outcome.Outcome.{Outcome}
 use Rattle.proxy_core.specs.declared.outcome.Outcome.TheVariants.{Waits}
 use Rattle.proxy_core.specs.declared.event.Event.{Event}
 use Rattle.proxy_core.specs.declared.event.Event.TheVariants.{Arrive, Answer, Fail, Wake, Abandon, Overdue}
-use Rattle.proxy_core.specs.Leading.{is_get, is_uri_miss, option_names_serial, exchange_asks_for_awaited, answer_may_serve}
+use Rattle.proxy_core.specs.Leading.{is_get, is_uri_miss, option_names_serial, exchange_went_forward_for_awaited, answer_may_serve}
 use Rattle.proxy_core.specs.Outcomes.{find_exchange, exchange_id_of_event}
-use Rattle.proxy_core.specs.State.{rule_of_decision, serial_named_by_decision, forwarded_exchange}
+use Rattle.proxy_core.specs.State.{rule_of_decision, serial_named_by_rule_of_decision, forwarded_exchange}
 use Rattle.proxy_core.specs.Histories.{open_exchanges}
-use Rattle.proxy_core.specs.Uncached.{EventGoesOverLine, RequestIsAnsweredByTheOperator}
+use Rattle.proxy_core.specs.Uncached.{EventGoesOverLine, RequestIsForwardedUnlessOnlyIfCached}
 use Rattle.proxy_core.proofs.Carries.{carries_its_arrival}
 use Rattle.proxy_core.proofs.Uncached.{sends_nothing_over_it, stores_nothing_over_it, goes_forward_over_it}
 use Rattle.proxy_core.proofs.Waits.{waits_nowhere_else}
 use Rattle.proxy_core_laws.specs.PastStore.{request_of_event, NamedCookieBypassesTheStore, BypassingRequestLeadsNobody, BypassingAnswerReportsTheCookie}
 
 -- past the store what a line without cache says counts
-no_cache : (table : Table) (line : RequestRoute) → line.past_store ≡ true → (policy_of table.lines line).caches ≡ false
+no_cache : (table : Table) (line : RouteOverLine) → line.past_store ≡ true → (policy_of table.lines line).caches ≡ false
 unfolding policy_of
 no_cache table line past = rw past refl
 
-module _ (table : Table) (line : RequestRoute) (asked : Asked) where
+module _ (table : Table) (line : RouteOverLine) (asked : Asked) where
   same_asked : (a : Asked) → Some a ≡ Some asked → a ≡ asked
   same_asked a e = cc
 
@@ -58,7 +58,7 @@ module _ (table : Table) (line : RequestRoute) (asked : Asked) where
   line_allows None carries (Abandon id) over is = absurd over
   line_allows None carries (Overdue id) over is = absurd over
 
-never_waits : (table : Table) (now : ℕ) (asked : Asked) (line : RequestRoute) (o : Outcome) (leader : ℕ) → RequestIsAnsweredByTheOperator table now asked line o → o ≡ Waits leader → ⊥
+never_waits : (table : Table) (now : ℕ) (asked : Asked) (line : RouteOverLine) (o : Outcome) (leader : ℕ) → RequestIsForwardedUnlessOnlyIfCached table now asked line o → o ≡ Waits leader → ⊥
 never_waits table now asked line o leader (inl forward) waits = let e = sym forward.1 ∙ waits in cc
 never_waits table now asked line o leader (inr refused) waits = let e = sym refused.1 ∙ waits in cc
 
@@ -92,9 +92,9 @@ leads_nobody table held now id asked other line policy awaited past =
     decided : decision_of (policy_of table.lines line) held asked now ≡ decision.Forward Operator None
     decided = sym (by_operator (policy_of table.lines line) held asked now (no_cache table line past))
 
-    asks : (awaited : Awaited) → exchange_asks_for_awaited awaited (forwarded_exchange table held now id asked line) ≡ false
+    asks : (awaited : Awaited) → exchange_went_forward_for_awaited awaited (forwarded_exchange table held now id asked line) ≡ false
     asks Missing = ap (λ (k : Decision). is_uri_miss (rule_of_decision k)) decided
-    asks (Expired serial) = ap (λ (k : Decision). option_names_serial (serial_named_by_decision k) serial) decided
+    asks (Expired serial) = ap (λ (k : Decision). option_names_serial (serial_named_by_rule_of_decision k) serial) decided
 
 pub tells_of_the_cookie : BypassingAnswerReportsTheCookie
 tells_of_the_cookie policy x status fields now stored rule past = rw past refl

@@ -20,13 +20,13 @@ use Rattle.hx_hop_laws.proofs.SentRequests.{line_of}
 use Rattle.hx_policy.specs.declared.words.Policy.{Policy}
 use Rattle.hx_status.specs.Member.{member_text}
 use Rattle.hx_store.specs.Stored.{Stored}
-use Rattle.hx_validate.specs.Ranges.{form_if_head_leaves_room, response_in_form_of, is_field_of_416, response_206_of_part, part_text, range_answer, response_as_range_or_whole, response_416_of, unsatisfied_text}
+use Rattle.hx_validate.specs.Ranges.{form_if_head_leaves_room, response_as_range_answer, is_field_of_416, response_206_of_part, part_text, range_answer, response_as_range_or_whole, response_416_of, unsatisfied_text}
 use Rattle.hx_validate.specs.Room.{head_leaves_room}
 use Rattle.hx_validate.specs.declared.ranges.RangeAnswer.{RangeAnswer}
 use Rattle.hx_validate.specs.declared.ranges.RangeAnswer.TheVariants.{Whole, Part, Unsatisfiable}
 use Rattle.hx_fields.proofs.JoinedTests.{never}
-use Rattle.proxy_core.specs.Replies.{cache_status_of_sent, content_unless_head, stored_response_as_sent, is_head, length_unless_forbidden, line, text_of_stored_in_form}
-use Rattle.proxy_core_laws.specs.StoredReplies.{StoredResponseIsSendable, fields_shown_by_line, stored_sent_whole}
+use Rattle.proxy_core.specs.Replies.{cache_status_of_sent, content_unless_head, stored_response_cut_to_range, is_head, length_unless_forbidden, line, text_of_stored_sent_as}
+use Rattle.proxy_core_laws.specs.StoredReplies.{StoredResponseIsSendable, fields_shown_under_policy, stored_sent_whole}
 use Rattle.proxy_core_laws.proofs.ReplyValues.{part_value, unsatisfied_value}
 
 range_name : list_all is_token_byte (codes "Content-Range") ≡ true
@@ -89,31 +89,31 @@ module _ (P : Stored → Type 0) (e : Stored) (whole : P e) (part : (first last 
       by_room true = is
       by_room false = whole
 
-  by_answer : (answer : RangeAnswer) → P (response_in_form_of answer e)
+  by_answer : (answer : RangeAnswer) → P (response_as_range_answer answer e)
   by_answer Whole = whole
   by_answer (Part first last) = either (response_206_of_part e first last) (part first last)
   by_answer Unsatisfiable = either (response_416_of e) unsatisfied
 
-  pub by_form : (policy : Policy) (asked : Asked) → P (stored_response_as_sent policy asked e)
+  pub by_form : (policy : Policy) (asked : Asked) → P (stored_response_cut_to_range policy asked e)
   by_form policy asked = by_word policy.forwards_ranges
     where
       by_word : (t : Bool) → P (cond t e (response_as_range_or_whole asked e))
       by_word true = whole
       by_word false = by_answer (range_answer asked e)
 
-pub form_sendable : (policy : Policy) (asked : Asked) (e : Stored) → StoredResponseIsSendable e → StoredResponseIsSendable (stored_response_as_sent policy asked e)
+pub form_sendable : (policy : Policy) (asked : Asked) (e : Stored) → StoredResponseIsSendable e → StoredResponseIsSendable (stored_response_cut_to_range policy asked e)
 form_sendable policy asked e is =
     by_form StoredResponseIsSendable e is (λ first last. part_sendable e first last is) (unsatisfied_sendable e is) policy asked
 
-same_times : (policy : Policy) (asked : Asked) (e : Stored) → (stored_response_as_sent policy asked e).times ≡ e.times
+same_times : (policy : Policy) (asked : Asked) (e : Stored) → (stored_response_cut_to_range policy asked e).times ≡ e.times
 same_times policy asked e = by_form (λ (f : Stored). f.times ≡ e.times) e refl (λ first last. refl) refl policy asked
 
-pub form_small : (policy : Policy) (asked : Asked) (e : Stored) → length e.content < 2 ^ 64 → length (stored_response_as_sent policy asked e).content < 2 ^ 64
+pub form_small : (policy : Policy) (asked : Asked) (e : Stored) → length e.content < 2 ^ 64 → length (stored_response_cut_to_range policy asked e).content < 2 ^ 64
 form_small policy asked e small =
     by_form (λ (f : Stored). length f.content < 2 ^ 64) e small (λ first last. omega (arith, small, slice_shorter e.content first (last + 1))) (omega arith) policy asked
 
 -- a form that isn't the whole has room, since else the whole is sent
-pub form_roomy : (policy : Policy) (asked : Asked) (e : Stored) → head_leaves_room e.fields ≡ true → head_leaves_room (stored_response_as_sent policy asked e).fields ≡ true
+pub form_roomy : (policy : Policy) (asked : Asked) (e : Stored) → head_leaves_room e.fields ≡ true → head_leaves_room (stored_response_cut_to_range policy asked e).fields ≡ true
 form_roomy policy asked e room = by_word policy.forwards_ranges
   where
     roomy : (form : Stored) → head_leaves_room (form_if_head_leaves_room e form).fields ≡ true
@@ -123,7 +123,7 @@ form_roomy policy asked e room = by_word policy.forwards_ranges
         by_room true is = is
         by_room false is = room
 
-    by_answer : (answer : RangeAnswer) → head_leaves_room (response_in_form_of answer e).fields ≡ true
+    by_answer : (answer : RangeAnswer) → head_leaves_room (response_as_range_answer answer e).fields ≡ true
     by_answer Whole = room
     by_answer (Part first last) = roomy (response_206_of_part e first last)
     by_answer Unsatisfiable = roomy (response_416_of e)
@@ -135,10 +135,10 @@ form_roomy policy asked e room = by_word policy.forwards_ranges
 -- ---- its text is that of the form, sent whole
 
 pub text_of_form : (name : List ℕ) (e : Stored) (now : ℕ) (info : _) (asked : Asked) →
-    text_of_stored_in_form name (stored_response_as_sent info.policy asked e) e now info asked
-    ≡ sent_response_text (stored_sent_whole info.policy name (stored_response_as_sent info.policy asked e) now (cache_status_of_sent (stored_response_as_sent info.policy asked e).status e now info) asked)
+    text_of_stored_sent_as name (stored_response_cut_to_range info.policy asked e) e now info asked
+    ≡ sent_response_text (stored_sent_whole info.policy name (stored_response_cut_to_range info.policy asked e) now (cache_status_of_sent (stored_response_cut_to_range info.policy asked e).status e now info) asked)
 text_of_form name e now info asked =
-    let form : Stored = stored_response_as_sent info.policy asked e in
-    ap (λ (t : Times). response_text form.status ((fields_shown_by_line info.policy form.fields ++ line (codes "Age") (decimal (age_of t now)) ∷ []) ++ line (codes "Cache-Status") (member_text name (cache_status_of_sent form.status e now info)) ∷ [])
+    let form : Stored = stored_response_cut_to_range info.policy asked e in
+    ap (λ (t : Times). response_text form.status ((fields_shown_under_policy info.policy form.fields ++ line (codes "Age") (decimal (age_of t now)) ∷ []) ++ line (codes "Cache-Status") (member_text name (cache_status_of_sent form.status e now info)) ∷ [])
     (length_unless_forbidden form.status (Some (length form.content))) asked.close (content_unless_head (is_head asked) form.content))
     (sym (same_times info.policy asked e))

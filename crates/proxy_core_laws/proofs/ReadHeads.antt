@@ -20,7 +20,7 @@ use Rattle.hx_framing.specs.Head.{field_of_parsed_line}
 use Rattle.hx_framing.specs.Lengths.{framing_of_response, without_length_fields}
 use Rattle.hx_framing.specs.HeadEnd.{head_length, most_head_bytes}
 use Rattle.hx_framing.specs.Reading.{Faulty, Spelled, truncated_or_incomplete, reading_of_content}
-use Rattle.hx_framing.specs.ResponseReading.{FinalReadsByHeadLength, ReadsAs, response_of_head, reading_with_framing, reading_without_response_head}
+use Rattle.hx_framing.specs.ResponseReading.{FinalResponseReadsByHeadLength, ReadsAs, response_of_head, response_reading_by_framing, reading_without_response_head}
 use Rattle.hx_framing.specs.StatusHead.{ResponseHeadIsJudged}
 use Rattle.hx_framing.specs.Text.{field_line_text, field_lines_text}
 use Rattle.hx_framing.proofs.HeadEnds.{head_within_bytes}
@@ -30,7 +30,7 @@ use Rattle.hx_hop.specs.Moments.{date_parts_of, date_text_of}
 use Rattle.hx_hop.specs.Stripping.{is_hop_by_hop_line, stripped}
 use Rattle.proxy_core.specs.declared.open.exchange.Exchange.{Exchange}
 use Rattle.proxy_core.specs.Storing.{stored_response_made}
-use Rattle.proxy_core.specs.Validating.{without_cookies}
+use Rattle.proxy_core.specs.Validating.{without_set_cookie_if}
 use Rattle.proxy_core_laws.specs.HeldHeads.{StoredHeadIsBounded, StoredHeadLeavesRoom}
 
 -- ---- the head that was read
@@ -51,9 +51,9 @@ of_body e h head (Whole content behind) r rest is =
     let same : r ≡ response_of_head h head content = cc in ap (λ (q : Response). q.fields) same
 
 of_framing : (max : ℕ) (h e : Bool) (head : StatusHead) (bytes : List ℕ) (r : Response) (rest : List ℕ)
-    → Spelled r rest ≡ reading_with_framing max h e head bytes (framing_of_response max h head) → r.fields ≡ without_length_fields head.fields
+    → Spelled r rest ≡ response_reading_by_framing max h e head bytes (framing_of_response max h head) → r.fields ≡ without_length_fields head.fields
 of_framing max h e head bytes r rest is =
-    (elim (framing_of_response max h head) as (λ j. Spelled r rest ≡ reading_with_framing max h e head bytes j → r.fields ≡ without_length_fields head.fields) [
+    (elim (framing_of_response max h head) as (λ j. Spelled r rest ≡ response_reading_by_framing max h e head bytes j → r.fields ≡ without_length_fields head.fields) [
       | Ok framing ↦ λ k. of_body e h head (content_by_framing max framing e bytes) r rest k
       | Err f ↦ λ k. absurd cc
     ]) is
@@ -72,7 +72,7 @@ no_head e bytes r rest is = by_tests (nat_lt most_head_bytes (length bytes)) e i
     by_tests false false h = cc
 
 of_head : (max : ℕ) (h e : Bool) (bytes : List ℕ) (o : Option ℕ) (r : Response) (rest : List ℕ) → head_length (take most_head_bytes bytes) ≡ o
-    → FinalReadsByHeadLength max h e bytes o (Spelled r rest) → IsReadHead r
+    → FinalResponseReadsByHeadLength max h e bytes o (Spelled r rest) → IsReadHead r
 of_head max h e bytes None r rest place is = absurd (no_head e bytes r rest is)
 of_head max h e bytes (Some n) r rest place (Err f, judges, final, is) = absurd cc
 of_head max h e bytes (Some n) r rest place (Ok head, judges, final, is) =
@@ -247,9 +247,9 @@ stored_within : (lines bytes serial now : ℕ) (x : Exchange) (r : Response) →
 stored_within lines bytes serial now x r are =
     let own = within_fewer lines bytes (λ f. not (is_hop_by_hop_line r.fields f)) r.fields are in
     let dated = dated_within lines bytes (stripped r.fields) now own in
-    within_fewer (lines + 1) (bytes + 37) (λ f. not (is_named (codes "Age") f)) (without_cookies x.removes_cookies (fields_with_valid_date (stripped r.fields) now)) (others_within x.removes_cookies dated)
+    within_fewer (lines + 1) (bytes + 37) (λ f. not (is_named (codes "Age") f)) (without_set_cookie_if x.removes_set_cookie (fields_with_valid_date (stripped r.fields) now)) (others_within x.removes_set_cookie dated)
   where
-    others_within : (removes : Bool) → AreWithin (lines + 1) (bytes + 37) (fields_with_valid_date (stripped r.fields) now) → AreWithin (lines + 1) (bytes + 37) (without_cookies removes (fields_with_valid_date (stripped r.fields) now))
+    others_within : (removes : Bool) → AreWithin (lines + 1) (bytes + 37) (fields_with_valid_date (stripped r.fields) now) → AreWithin (lines + 1) (bytes + 37) (without_set_cookie_if removes (fields_with_valid_date (stripped r.fields) now))
     others_within true dated = within_fewer (lines + 1) (bytes + 37) (λ f. not (is_named (codes "Set-Cookie") f)) (fields_with_valid_date (stripped r.fields) now) dated
     others_within false dated = dated
 

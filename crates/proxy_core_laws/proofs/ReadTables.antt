@@ -12,10 +12,10 @@ use Rattle.httparse.specs.Grammar.{IsToken, is_token_byte}
 use Rattle.toml.specs.Data.{Members, get_member, as_integer}
 use Rattle.hx_allow.specs.Keys.{key_text}
 use Rattle.hx_allow.specs.TableLines.{Table}
-use Rattle.hx_allow.specs.Tables.{fault_or_table_read, is_name, is_name_byte, judge_table, number_of_key, table_fault, table_of_members, TableWasRead, table_version_of}
+use Rattle.hx_allow.specs.Tables.{fault_or_table_read, is_name, is_name_byte, config_or_fault_of_table, number_of_key, table_fault, table_of_members, TableWasRead, table_version_of}
 use Rattle.hx_allow.specs.Values.{first_unknown, is_some_and, text_of_key, within}
-use Rattle.hx_allow.specs.declared.config_faults.ConfigFault.{ConfigFault}
-use Rattle.hx_allow.specs.declared.config_faults.ConfigFault.TheVariants.{UnknownKey, BadName}
+use Rattle.hx_allow.specs.declared.config_faults.TableFault.{TableFault}
+use Rattle.hx_allow.specs.declared.config_faults.TableFault.TheVariants.{UnknownKey, BadName}
 use Rattle.hx_allow.specs.declared.config_faults.NumberKey.TheVariants.{MaxStored}
 use Rattle.hx_allow.specs.declared.values.Scope.TheVariants.{Top}
 use Rattle.proxy_core_laws.specs.SentMessages.{TableNameIsAToken, StoredContentFits64Bits}
@@ -86,12 +86,12 @@ within_high low high (Some (pos n)) = by_test (nat_le low n) (nat_le n high) ref
 -- ---- a table that was read
 
 module _ (t : Members) (table : Table) where
-  by_fault : (o : Option ConfigFault) → table_fault t ≡ o → Ok table ≡ fault_or_table_read o t → (table_of_members t ≡ table) × (table_fault t ≡ None)
+  by_fault : (o : Option TableFault) → table_fault t ≡ o → Ok table ≡ fault_or_table_read o t → (table_of_members t ≡ table) × (table_fault t ≡ None)
   by_fault (Some fault) is e = absurd cc
   by_fault None is e = (cc, is)
 
-  said : Ok table ≡ judge_table t → (table_of_members t ≡ table) × (table_fault t ≡ None)
-  unfolding judge_table
+  said : Ok table ≡ config_or_fault_of_table t → (table_of_members t ≡ table) × (table_fault t ≡ None)
+  unfolding config_or_fault_of_table
   said e = by_fault (table_fault t) refl e
 
 read_as : (table : Table) → TableWasRead table → (t : Members) × (table_of_members t ≡ table) × (table_fault t ≡ None)

@@ -11,7 +11,7 @@ use Rattle.hx_hop.specs.Answering.{answered_of}
 use Rattle.hx_hop.proofs.Lines.{filter_keeps, list_any_none_left, not_true}
 use Rattle.hx_allow.specs.Matching.{policy_of}
 use Rattle.hx_allow.specs.TableLines.{Table}
-use Rattle.hx_allow.specs.declared.verdicts.RequestRoute.{RequestRoute}
+use Rattle.hx_allow.specs.declared.verdicts.RouteOverLine.{RouteOverLine}
 use Rattle.hx_allow.specs.declared.verdicts.Verdict.TheVariants as verdict
 use Rattle.hx_storable.specs.declared.rule.StoreRule.{StoreRule}
 use Rattle.hx_store.specs.Stored.{Stored}
@@ -29,23 +29,23 @@ use Rattle.proxy_core.specs.declared.event.Event.TheVariants.{Arrive, Answer, Fa
 use Rattle.proxy_core.specs.declared.outcome.Outcome.{Outcome}
 use Rattle.proxy_core.specs.declared.outcome.Outcome.TheVariants.{Reply as ReplyData}
 use Rattle.proxy_core.specs.declared.outcome.Reply.{Reply}
-use Rattle.proxy_core.specs.Histories.{held_entries, held_entry, open_exchanges}
+use Rattle.proxy_core.specs.Histories.{held_entries, entry_held_after, open_exchanges}
 use Rattle.proxy_core.specs.Outcomes.{find_exchange, exchange_id_of_event}
-use Rattle.proxy_core.specs.Replies.{fields_of_answer_416, fields_of_partial_answer, range_of_answer, cache_status_of_sent, client_wants_304_for_answer, stored_response_as_sent, not_modified_text, stored_reply_text, text_of_stored_in_form, fields_without_hidden_tags}
-use Rattle.proxy_core.specs.Sending.{ReplyIsTheStoredResponse}
+use Rattle.proxy_core.specs.Replies.{fields_of_answer_416, fields_of_partial_answer, part_of_answer_to_send, cache_status_of_sent, client_wants_304_for_answer, stored_response_cut_to_range, not_modified_text, stored_reply_text, text_of_stored_sent_as, fields_without_hidden_tags}
+use Rattle.proxy_core.specs.Sending.{ReplySendsTheStoredResponse}
 use Rattle.proxy_core.specs.Starts.{StoreAtStart}
-use Rattle.proxy_core.specs.State.{serials_expired_by_outcome, serial_stored_by_outcome, serial_used_by_outcome, stored_response_as_used, stored_response_by_answer}
+use Rattle.proxy_core.specs.State.{serials_expired_by_outcome, serial_stored_by_outcome, serial_used_by_outcome, stored_response_freshened_by_event, stored_response_by_answer}
 use Rattle.proxy_core.specs.Storing.{stored_response_made}
 use Rattle.proxy_core.specs.Traces.{Item}
 use Rattle.proxy_core.specs.Uncached.{EventGoesOverLine}
-use Rattle.proxy_core.specs.Validating.{times_after_304, freshened_by_304, stored_response_is_answered, without_cookies}
+use Rattle.proxy_core.specs.Validating.{times_after_304, freshened_by_304, stored_response_is_answered_by_304, without_set_cookie_if}
 use Rattle.proxy_core.proofs.ExpiredEntries.{was_there}
 use Rattle.proxy_core.proofs.SentResponses.{sends_what_is_held}
 use Rattle.hx_hop.proofs.Lines.{list_any_fewer}
 use Rattle.proxy_core_laws.specs.OneResponse.{partial_answer_as_sent, response_sent_in_place_of_answer, not_modified_answer_as_sent, passed_answer_in_form_as_sent, whole_answer_as_sent}
 use Rattle.proxy_core_laws.specs.RemovedCookies.{IsTextWithoutSetCookie, NoCookieIsLeftInTheStore, NoCookieIsSentOutOfTheStore, RequesterGetsTheCookies}
-use Rattle.proxy_core_laws.specs.StoredReplies.{fields_shown_by_line, stored_sent_as_304, stored_sent_whole}
-use Rattle.proxy_core_laws.specs.Varied.{storing_exchange_after_event, latest_storing_exchange_of, stored_if_any_is_answered_by_304}
+use Rattle.proxy_core_laws.specs.StoredReplies.{fields_shown_under_policy, stored_sent_as_304, stored_sent_whole}
+use Rattle.proxy_core_laws.specs.Varied.{exchange_that_last_stored_or_freshened, latest_storing_exchange_of, stored_if_any_is_answered_by_304}
 use Rattle.proxy_core_laws.proofs.HiddenTags.{hidden_without}
 use Rattle.proxy_core_laws.proofs.RangeForms.{text_of_form}
 use Rattle.proxy_core_laws.proofs.OtherLines.{cookie, other_name}
@@ -56,7 +56,7 @@ abbrev HasNone : List Field → Type 0
 HasNone fields = has_field fields cookie ≡ false
 
 -- none is left where they are taken out
-removed_none : (removes : Bool) (fields : List Field) → removes ≡ true → HasNone (without_cookies removes fields)
+removed_none : (removes : Bool) (fields : List Field) → removes ≡ true → HasNone (without_set_cookie_if removes fields)
 removed_none true fields h = list_any_none_left (λ f. not (is_named cookie f)) (is_named cookie) (λ f kept. not_true (is_named cookie f) kept) fields
 removed_none false fields h = absurd (false≢true h)
 
@@ -83,14 +83,14 @@ carries_none fields = list_any_none_left (is_field_of_304 tagged) (is_named cook
 
 -- ---- what is sent
 
-same_line : (m n : RequestRoute) → verdict.Allowed m ≡ verdict.Allowed n → m ≡ n
+same_line : (m n : RouteOverLine) → verdict.Allowed m ≡ verdict.Allowed n → m ≡ n
 same_line m n h = cc
 
 pub same_reply : (a b : Reply) → ReplyData a ≡ ReplyData b → a ≡ b
 same_reply a b h = cc
 
 -- what is told is told by the policy of the line
-pub policy_shown : (table : Table) (held : List Stored) (x : Option Exchange) (event : Event) (outcome : Outcome) (s : ℕ) (line : RequestRoute) (is : ReplyIsTheStoredResponse table held x event outcome s)
+pub policy_shown : (table : Table) (held : List Stored) (x : Option Exchange) (event : Event) (outcome : Outcome) (s : ℕ) (line : RouteOverLine) (is : ReplySendsTheStoredResponse table held x event outcome s)
     → EventGoesOverLine table x event line → is.info.policy ≡ policy_of table.lines line
 policy_shown table held x (Arrive now id asked) outcome s line is over =
     rw is.cache_status_matches.2.1 (ap (policy_of table.lines) (same_line is.cache_status_matches.0 line (sym is.cache_status_matches.1 ∙ over)))
@@ -103,18 +103,18 @@ policy_shown table held None (Wake now id) outcome s line is over = absurd over
 policy_shown table held x (Abandon id) outcome s line is over = absurd is.cache_status_matches
 policy_shown table held x (Overdue id) outcome s line is over = absurd is.cache_status_matches
 
-module _ (table : Table) (held : List Stored) (x : Option Exchange) (event : Event) (outcome : Outcome) (s : ℕ) (is : ReplyIsTheStoredResponse table held x event outcome s) (removes : is.info.policy.removes_cookies ≡ true) where
+module _ (table : Table) (held : List Stored) (x : Option Exchange) (event : Event) (outcome : Outcome) (s : ℕ) (is : ReplySendsTheStoredResponse table held x event outcome s) (removes : is.info.policy.removes_set_cookie ≡ true) where
   abbrev form : Stored
-  form = stored_response_as_used x event is.response
+  form = stored_response_freshened_by_event x event is.response
 
   -- or a part of it
   abbrev as_sent : Stored
-  as_sent = stored_response_as_sent is.info.policy is.asked form
+  as_sent = stored_response_cut_to_range is.info.policy is.asked form
 
   none_sent : IsTextWithoutSetCookie (stored_reply_text table.name form is.now is.info is.asked)
   none_sent = by_test (stored_gets_304 is.asked form)
     where
-      by_test : (t : Bool) → IsTextWithoutSetCookie (cond t (not_modified_text table.name form is.now is.info is.asked) (text_of_stored_in_form table.name as_sent form is.now is.info is.asked))
+      by_test : (t : Bool) → IsTextWithoutSetCookie (cond t (not_modified_text table.name form is.now is.info is.asked) (text_of_stored_sent_as table.name as_sent form is.now is.info is.asked))
       by_test true = record {
         sent = stored_sent_as_304 table.name form is.now (cache_status_of_sent 304 form is.now is.info) is.asked;
         text_is = refl;
@@ -123,8 +123,8 @@ module _ (table : Table) (held : List Stored) (x : Option Exchange) (event : Eve
       by_test false = record {
         sent = stored_sent_whole is.info.policy table.name as_sent is.now (cache_status_of_sent as_sent.status form is.now is.info) is.asked;
         text_is = text_of_form table.name form is.now is.info is.asked;
-        has_no_such_field = lines_without table.name (fields_shown_by_line is.info.policy as_sent.fields) as_sent is.now (cache_status_of_sent as_sent.status form is.now is.info) cookie
-            (hidden_without is.info.policy.hides_tags (without_cookies is.info.policy.removes_cookies as_sent.fields) cookie (removed_none is.info.policy.removes_cookies as_sent.fields removes)) refl refl;
+        has_no_such_field = lines_without table.name (fields_shown_under_policy is.info.policy as_sent.fields) as_sent is.now (cache_status_of_sent as_sent.status form is.now is.info) cookie
+            (hidden_without is.info.policy.hides_tags (without_set_cookie_if is.info.policy.removes_set_cookie as_sent.fields) cookie (removed_none is.info.policy.removes_set_cookie as_sent.fields removes)) refl refl;
       }
 
 pub sends_no_cookie : NoCookieIsSentOutOfTheStore
@@ -132,7 +132,7 @@ sends_no_cookie table start first s line item past reply good over removes used 
     let x : Option Exchange = find_exchange (exchange_id_of_event item.event) (open_exchanges table start past) in
     let held : List Stored = held_entries table start past in
     let is = sends_what_is_held table start first s item past good used in
-    let told : is.info.policy.removes_cookies ≡ true = ap (λ (p : Policy). p.removes_cookies) (policy_shown table held x item.event item.outcome s line is over) ∙ removes in
+    let told : is.info.policy.removes_set_cookie ≡ true = ap (λ (p : Policy). p.removes_set_cookie) (policy_shown table held x item.event item.outcome s line is over) ∙ removes in
     subst (λ (q : Reply). IsTextWithoutSetCookie q.bytes) (same_reply is.reply reply (sym is.outcome_is ∙ replied))
     (subst (λ (bytes : List ℕ). IsTextWithoutSetCookie bytes) (sym is.bytes_are) (none_sent table held x item.event item.outcome s is told))
 
@@ -149,24 +149,24 @@ unchanged {e = e} as_used same false false look earlier k h = earlier e k h
 some_same : {B : Type 0} {x y : B} → Some x ≡ Some y → x ≡ y
 some_same h = cc
 
-made_none : (s : ℕ) (x : Exchange) (r : Response) (now : ℕ) → x.removes_cookies ≡ true → HasNone (stored_response_made s x r now).fields
+made_none : (s : ℕ) (x : Exchange) (r : Response) (now : ℕ) → x.removes_set_cookie ≡ true → HasNone (stored_response_made s x r now).fields
 made_none s x r now removes =
-    list_any_fewer (λ f. not (is_named (codes "Age") f)) (is_named cookie) (without_cookies x.removes_cookies (answered_of r now).fields)
-    (removed_none x.removes_cookies (answered_of r now).fields removes)
+    list_any_fewer (λ f. not (is_named (codes "Age") f)) (is_named cookie) (without_set_cookie_if x.removes_set_cookie (answered_of r now).fields)
+    (removed_none x.removes_set_cookie (answered_of r now).fields removes)
 
-freshened_none : (x : Exchange) (r : Response) (now : ℕ) (e : Stored) → x.removes_cookies ≡ true → HasNone (freshened_by_304 x r now e).fields
-freshened_none x r now e removes = removed_none x.removes_cookies (freshened_of x.vary e (answered_of r now) x.asked (times_after_304 x r now e)).fields removes
+freshened_none : (x : Exchange) (r : Response) (now : ℕ) (e : Stored) → x.removes_set_cookie ≡ true → HasNone (freshened_by_304 x r now e).fields
+freshened_none x r now e removes = removed_none x.removes_set_cookie (freshened_of x.vary e (answered_of r now) x.asked (times_after_304 x r now e)).fields removes
 
 -- before a purge may have ended its lifetime
-leaves_none_before : (table : Table) (start : StoreAtStart) (item : Item) (past : List Item) (s : ℕ) (x : Exchange) (e : Stored) → (policy_of table.lines x.line).removes_cookies ≡ true
-    → ((f : Stored) → latest_storing_exchange_of table start past s ≡ Some x → held_entry table start past s ≡ Some f → HasNone f.fields)
+leaves_none_before : (table : Table) (start : StoreAtStart) (item : Item) (past : List Item) (s : ℕ) (x : Exchange) (e : Stored) → (policy_of table.lines x.line).removes_set_cookie ≡ true
+    → ((f : Stored) → latest_storing_exchange_of table start past s ≡ Some x → entry_held_after table start past s ≡ Some f → HasNone f.fields)
     → latest_storing_exchange_of table start (item ∷ past) s ≡ Some x
     → cond (option_is_serial (serial_stored_by_outcome item.outcome) s) (stored_response_by_answer (find_exchange (exchange_id_of_event item.event) (open_exchanges table start past)) item.event s)
-    (cond (option_is_serial (serial_used_by_outcome item.outcome) s) (option_map (stored_response_as_used (find_exchange (exchange_id_of_event item.event) (open_exchanges table start past)) item.event) (held_entry table start past s)) (held_entry table start past s)) ≡ Some e
+    (cond (option_is_serial (serial_used_by_outcome item.outcome) s) (option_map (stored_response_freshened_by_event (find_exchange (exchange_id_of_event item.event) (open_exchanges table start past)) item.event) (entry_held_after table start past s)) (entry_held_after table start past s)) ≡ Some e
     → HasNone e.fields
 leaves_none_before table start item past s x e removes rest left held =
     by_event (find_exchange (exchange_id_of_event item.event) (open_exchanges table start past)) item.event
-    (λ y h. removes_so table start (exchange_id_of_event item.event) past y h) (held_entry table start past s) rest left held
+    (λ y h. removes_so table start (exchange_id_of_event item.event) past y h) (entry_held_after table start past s) rest left held
   where
     before : Option Exchange
     before = latest_storing_exchange_of table start past s
@@ -178,16 +178,16 @@ leaves_none_before table start item past s x e removes rest left held =
     used = option_is_serial (serial_used_by_outcome item.outcome) s
 
     Removes : Exchange → Type 0
-    Removes y = y.removes_cookies ≡ (policy_of table.lines y.line).removes_cookies
+    Removes y = y.removes_set_cookie ≡ (policy_of table.lines y.line).removes_set_cookie
 
     by_event : (o : Option Exchange) (event : Event) → ((y : Exchange) → o ≡ Some y → Removes y) → (look : Option Stored)
         → ((f : Stored) → before ≡ Some x → look ≡ Some f → HasNone f.fields)
-        → storing_exchange_after_event o event item.outcome look before s ≡ Some x
-        → cond stored (stored_response_by_answer o event s) (cond used (option_map (stored_response_as_used o event) look) look) ≡ Some e → HasNone e.fields
+        → exchange_that_last_stored_or_freshened o event item.outcome look before s ≡ Some x
+        → cond stored (stored_response_by_answer o event s) (cond used (option_map (stored_response_freshened_by_event o event) look) look) ≡ Some e → HasNone e.fields
     by_event (Some y) (Answer now id r) own look earlier k h = by_tests stored used look k h refl
       where
-        own_removes : Some y ≡ Some x → y.removes_cookies ≡ true
-        own_removes same = own y refl ∙ ap (λ (z : Exchange). (policy_of table.lines z.line).removes_cookies) (some_same same) ∙ removes
+        own_removes : Some y ≡ Some x → y.removes_set_cookie ≡ true
+        own_removes same = own y refl ∙ ap (λ (z : Exchange). (policy_of table.lines z.line).removes_set_cookie) (some_same same) ∙ removes
 
         made : Some y ≡ Some x → Some (stored_response_made s y r now) ≡ Some e → HasNone e.fields
         made same j = subst (λ (f : Stored). HasNone f.fields) (some_same j) (made_none s y r now (own_removes same))
@@ -197,21 +197,21 @@ leaves_none_before table start item past s x e removes rest left held =
         by_answer f rest false same j = rest e same j
 
         by_used : (u : Bool) (o : Option Stored) → ((f : Stored) → before ≡ Some x → o ≡ Some f → HasNone f.fields) → cond (u && stored_if_any_is_answered_by_304 y r now o) (Some y) before ≡ Some x
-            → cond u (option_map (stored_response_as_used (Some y) (Answer now id r)) o) o ≡ Some e → HasNone e.fields
+            → cond u (option_map (stored_response_freshened_by_event (Some y) (Answer now id r)) o) o ≡ Some e → HasNone e.fields
         by_used true None rest same j = absurd cc
-        by_used true (Some f) rest same j = by_answer f rest (stored_response_is_answered y r now f) same j
+        by_used true (Some f) rest same j = by_answer f rest (stored_response_is_answered_by_304 y r now f) same j
         by_used false o rest same j = rest e same j
 
         by_tests : (t u : Bool) (o : Option Stored) → cond (t || (u && stored_if_any_is_answered_by_304 y r now o)) (Some y) before ≡ Some x
-            → cond t (Some (stored_response_made s y r now)) (cond u (option_map (stored_response_as_used (Some y) (Answer now id r)) o) o) ≡ Some e → o ≡ look → HasNone e.fields
+            → cond t (Some (stored_response_made s y r now)) (cond u (option_map (stored_response_freshened_by_event (Some y) (Answer now id r)) o) o) ≡ Some e → o ≡ look → HasNone e.fields
         by_tests true u o same j at = made same j
         by_tests false u o same j at = by_used u o (λ f b found. earlier f b (sym at ∙ found)) same j
-    by_event (Some y) (Arrive now id asked) own look earlier k h = unchanged (stored_response_as_used (Some y) (Arrive now id asked)) (λ f. refl) stored used look earlier k h
-    by_event (Some y) (Fail now id kind) own look earlier k h = unchanged (stored_response_as_used (Some y) (Fail now id kind)) (λ f. refl) stored used look earlier k h
-    by_event (Some y) (Wake now id) own look earlier k h = unchanged (stored_response_as_used (Some y) (Wake now id)) (λ f. refl) stored used look earlier k h
-    by_event (Some y) (Abandon id) own look earlier k h = unchanged (stored_response_as_used (Some y) (Abandon id)) (λ f. refl) stored used look earlier k h
-    by_event (Some y) (Overdue id) own look earlier k h = unchanged (stored_response_as_used (Some y) (Overdue id)) (λ f. refl) stored used look earlier k h
-    by_event None event own look earlier k h = unchanged (stored_response_as_used None event) (λ f. refl) stored used look earlier k h
+    by_event (Some y) (Arrive now id asked) own look earlier k h = unchanged (stored_response_freshened_by_event (Some y) (Arrive now id asked)) (λ f. refl) stored used look earlier k h
+    by_event (Some y) (Fail now id kind) own look earlier k h = unchanged (stored_response_freshened_by_event (Some y) (Fail now id kind)) (λ f. refl) stored used look earlier k h
+    by_event (Some y) (Wake now id) own look earlier k h = unchanged (stored_response_freshened_by_event (Some y) (Wake now id)) (λ f. refl) stored used look earlier k h
+    by_event (Some y) (Abandon id) own look earlier k h = unchanged (stored_response_freshened_by_event (Some y) (Abandon id)) (λ f. refl) stored used look earlier k h
+    by_event (Some y) (Overdue id) own look earlier k h = unchanged (stored_response_freshened_by_event (Some y) (Overdue id)) (λ f. refl) stored used look earlier k h
+    by_event None event own look earlier k h = unchanged (stored_response_freshened_by_event None event) (λ f. refl) stored used look earlier k h
 
 pub leaves_no_cookie : NoCookieIsLeftInTheStore
 leaves_no_cookie table start [] s x e left removes held = absurd cc
@@ -284,8 +284,8 @@ asker_gets_them policy name x r now stored rule = by_test (client_wants_304_for_
     by_answer (Part first last) = by_room (head_leaves_room (fields_of_partial_answer r now first last)) 206 (fields_of_partial_answer r now first last) (slice_range r.content first (last + 1)) (kept_in_a_part fields first last (length r.content))
     by_answer Unsatisfiable = by_room (head_leaves_room (fields_of_answer_416 r now)) 416 (fields_of_answer_416 r now) [] (kept_in_a_416 fields (length r.content))
 
-    by_test : (has : Bool) → values_of (cond has (not_modified_answer_as_sent policy name x r now stored rule) (partial_answer_as_sent policy name x r now stored rule (range_of_answer policy x r now))).fields cookie ≡ values_of fields cookie
+    by_test : (has : Bool) → values_of (cond has (not_modified_answer_as_sent policy name x r now stored rule) (partial_answer_as_sent policy name x r now stored rule (part_of_answer_to_send policy x r now))).fields cookie ≡ values_of fields cookie
     by_test true =
         named_after (fields_without_hidden_tags policy.hides_tags (filter (is_field_of_304_to_answer (has_field fields (codes "ETag"))) fields)) _ refl
         ∙ (kept_where_hidden policy.hides_tags (filter (is_field_of_304_to_answer (has_field fields (codes "ETag"))) fields) ∙ kept_for_asker fields)
-    by_test false = by_answer (range_of_answer policy x r now)
+    by_test false = by_answer (part_of_answer_to_send policy x r now)

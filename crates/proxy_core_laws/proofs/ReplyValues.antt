@@ -27,7 +27,7 @@ use Rattle.hx_status.specs.declared.status.How.TheVariants.{Hit, Fwd}
 use Rattle.hx_status.specs.declared.status.Status.{Status}
 use Rattle.hx_storable.specs.declared.rule.StoreRule.{StoreRule}
 use Rattle.hx_storable.specs.declared.rule.StoreRule.TheVariants.{Operator}
-use Rattle.hx_status.specs.Member.{detail_of_step_or_rule, text_if_flag, fwd_status_text, hit_or_forward_text, member_text, not_stored_word, ttl_text, detail_word, detail_word_or_not_stored, detail_word_text}
+use Rattle.hx_status.specs.Member.{detail_of_step_or_rule, text_if_flag, fwd_status_text, hit_or_forward_text, member_text, not_stored_word, ttl_text, detail_word, detail_word_or_not_stored, parameter_of_detail_word}
 use Rattle.hx_status.specs.Refusals.{error_rule_text, frame_fault_word, fail_kind_word, origin_failure_text, fwd_parameters_of_rule, target_fault_word, refusal_text}
 use Rattle.hx_validate.specs.Ranges.{part_text, unsatisfied_text}
 use Rattle.hx_hop_laws.specs.OneMessage.{IsFieldValue}
@@ -97,7 +97,7 @@ reason_visible : (rule : ReuseRule) → list_all seen (reuse_rule_reason rule) �
 reason_visible UriMiss = refl
 reason_visible _ = refl
 
-detail_visible : (rule : ReuseRule) → list_all seen (detail_word_text (reuse_rule_detail rule)) ≡ true
+detail_visible : (rule : ReuseRule) → list_all seen (parameter_of_detail_word (reuse_rule_detail rule)) ≡ true
 detail_visible UriMiss = refl
 detail_visible _ = refl
 
@@ -117,7 +117,7 @@ target_visible : (fault : TargetFault) → list_all seen (target_fault_word faul
 target_visible target.Form = refl
 target_visible _ = refl
 
-step_visible : (detail : Detail) → list_all seen (detail_word_text (Some (detail_word detail))) ≡ true
+step_visible : (detail : Detail) → list_all seen (parameter_of_detail_word (Some (detail_word detail))) ≡ true
 step_visible StaleIfError = refl
 step_visible _ = refl
 
@@ -139,19 +139,19 @@ flag_visible : (flag : Bool) (text : List ℕ) → AreVisible text → AreVisibl
 flag_visible true text all = all
 flag_visible false text all = word [] refl
 
-named_visible : (detail : Option Detail) (how : How) → AreVisible (detail_word_text (detail_of_step_or_rule detail how))
-named_visible (Some detail) how = word (detail_word_text (Some (detail_word detail))) (step_visible detail)
+named_visible : (detail : Option Detail) (how : How) → AreVisible (parameter_of_detail_word (detail_of_step_or_rule detail how))
+named_visible (Some detail) how = word (parameter_of_detail_word (Some (detail_word detail))) (step_visible detail)
 named_visible None Hit = word [] refl
-named_visible None (Fwd rule) = word (detail_word_text (reuse_rule_detail rule)) (detail_visible rule)
+named_visible None (Fwd rule) = word (parameter_of_detail_word (reuse_rule_detail rule)) (detail_visible rule)
 
-not_stored_visible : (rule : StoreRule) → list_all seen (detail_word_text (Some (not_stored_word rule))) ≡ true
+not_stored_visible : (rule : StoreRule) → list_all seen (parameter_of_detail_word (Some (not_stored_word rule))) ≡ true
 not_stored_visible Operator = refl
 not_stored_visible _ = refl
 
-visible_or : (o : Option (List ℕ)) (rule : Option StoreRule) → AreVisible (detail_word_text o) → AreVisible (detail_word_text (detail_word_or_not_stored o rule))
+visible_or : (o : Option (List ℕ)) (rule : Option StoreRule) → AreVisible (parameter_of_detail_word o) → AreVisible (parameter_of_detail_word (detail_word_or_not_stored o rule))
 visible_or (Some text) rule are = are
 visible_or None None are = are
-visible_or None (Some rule) are = word (detail_word_text (Some (not_stored_word rule))) (not_stored_visible rule)
+visible_or None (Some rule) are = word (parameter_of_detail_word (Some (not_stored_word rule))) (not_stored_visible rule)
 
 visible_field_value : (text : List ℕ) → AreVisible text → IsFieldValue text
 visible_field_value text are = (visible_value text are.all, trim_word text (visible_seen text are.all))
@@ -163,14 +163,14 @@ member_value name status token =
     let ttl = joined _ (ttl_text status.ttl) came (ttl_visible status.ttl) in
     let stored = joined _ (text_if_flag status.stored (codes ";stored")) ttl (flag_visible status.stored (codes ";stored") (word (codes ";stored") refl)) in
     let collapsed = joined _ (text_if_flag status.collapsed (codes ";collapsed")) stored (flag_visible status.collapsed (codes ";collapsed") (word (codes ";collapsed") refl)) in
-    visible_field_value (member_text name status) (joined _ (detail_word_text (detail_word_or_not_stored (detail_of_step_or_rule status.detail status.how) status.not_stored)) collapsed
+    visible_field_value (member_text name status) (joined _ (parameter_of_detail_word (detail_word_or_not_stored (detail_of_step_or_rule status.detail status.how) status.not_stored)) collapsed
     (visible_or (detail_of_step_or_rule status.detail status.how) status.not_stored (named_visible status.detail status.how)))
 
 -- ---- the proxy's own texts
 
 rule_visible : (rule : ReuseRule) → AreVisible (fwd_parameters_of_rule rule)
 rule_visible rule =
-    joined (codes ";fwd=" ++ reuse_rule_reason rule) (detail_word_text (reuse_rule_detail rule)) (how_visible (Fwd rule)) (word (detail_word_text (reuse_rule_detail rule)) (detail_visible rule))
+    joined (codes ";fwd=" ++ reuse_rule_reason rule) (parameter_of_detail_word (reuse_rule_detail rule)) (how_visible (Fwd rule)) (word (parameter_of_detail_word (reuse_rule_detail rule)) (detail_visible rule))
 
 errors_visible : (error : Option ErrorRule) → AreVisible (error_rule_text error)
 errors_visible None = word [] refl

@@ -20,15 +20,15 @@ use Rattle.hx_status.specs.declared.status.How.{How}
 use Rattle.hx_status.specs.declared.status.How.TheVariants.{Hit, Fwd}
 use Rattle.hx_status.specs.declared.status.Status.{Status}
 use Rattle.hx_storable.specs.declared.rule.StoreRule.{StoreRule}
-use Rattle.hx_status.specs.Member.{detail_of_step_or_rule, detail_parameter_text, text_if_flag, fwd_status_text, hit_or_forward_text, member_text, ttl_text, detail_word, detail_word_or_not_stored, detail_word_text}
+use Rattle.hx_status.specs.Member.{detail_of_step_or_rule, detail_parameter_text, text_if_flag, fwd_status_text, hit_or_forward_text, member_text, ttl_text, detail_word, detail_word_or_not_stored, parameter_of_detail_word}
 use Rattle.hx_store.specs.Stored.{Stored}
 use Rattle.hx_validate.specs.NotModified.{is_field_of_304, fields_of_304}
 use Rattle.hx_validate.specs.Room.{head_leaves_room}
 use Rattle.hx_policy.specs.declared.words.Policy.{Policy}
 use Rattle.proxy_core.specs.Replies.{line, fields_without_hidden_tags}
-use Rattle.proxy_core.specs.Validating.{without_cookies}
-use Rattle.proxy_core_laws.specs.HeldHeads.{HeadWithRoomAs304IsWithinReaderLimits, HeadWithRoomIsWithinReaderLimits, SecondsAreInRange, StatusIsInRange}
-use Rattle.proxy_core_laws.specs.StoredReplies.{stored_fields_as_sent, fields_shown_by_line}
+use Rattle.proxy_core.specs.Validating.{without_set_cookie_if}
+use Rattle.proxy_core_laws.specs.HeldHeads.{HeadWithRoomSentAs304IsWithinReaderLimits, HeadWithRoomIsWithinReaderLimits, SecondsAreInRange, CacheStatusIsInRange}
+use Rattle.proxy_core_laws.specs.StoredReplies.{stored_fields_as_sent, fields_shown_under_policy}
 use Rattle.proxy_core_laws.proofs.ReadHeads.{AreWithin, within_fewer}
 
 -- ---- the member of Cache-Status
@@ -37,11 +37,11 @@ reason_short : (rule : ReuseRule) → nat_le (length (reuse_rule_reason rule)) 9
 reason_short UriMiss = refl
 reason_short _ = refl
 
-detail_short : (rule : ReuseRule) → nat_le (length (detail_word_text (reuse_rule_detail rule))) 30 ≡ true
+detail_short : (rule : ReuseRule) → nat_le (length (parameter_of_detail_word (reuse_rule_detail rule))) 30 ≡ true
 detail_short UriMiss = refl
 detail_short _ = refl
 
-step_short : (detail : Detail) → nat_le (length (detail_word_text (Some (detail_word detail)))) 30 ≡ true
+step_short : (detail : Detail) → nat_le (length (parameter_of_detail_word (Some (detail_word detail)))) 30 ≡ true
 step_short StaleIfError = refl
 step_short _ = refl
 
@@ -80,13 +80,13 @@ flag_short : (flag : Bool) (text : List ℕ) (n : ℕ) → length text ≤ n →
 flag_short true text n is = is
 flag_short false text n is = omega arith
 
-named_short : (detail : Option Detail) (how : How) → length (detail_word_text (detail_of_step_or_rule detail how)) ≤ 30
+named_short : (detail : Option Detail) (how : How) → length (parameter_of_detail_word (detail_of_step_or_rule detail how)) ≤ 30
 named_short (Some detail) how = leb-true _ 30 (step_short detail)
 named_short None Hit = omega arith
 named_short None (Fwd rule) = leb-true _ 30 (detail_short rule)
 
 -- so where no storing rule is told
-short_or : (o : Option (List ℕ)) (rule : Option StoreRule) → rule ≡ None → length (detail_word_text o) ≤ 30 → length (detail_word_text (detail_word_or_not_stored o rule)) ≤ 30
+short_or : (o : Option (List ℕ)) (rule : Option StoreRule) → rule ≡ None → length (parameter_of_detail_word o) ≤ 30 → length (parameter_of_detail_word (detail_word_or_not_stored o rule)) ≤ 30
 short_or (Some text) rule none h = h
 short_or None None none h = h
 short_or None (Some rule) none h = absurd cc
@@ -94,7 +94,7 @@ short_or None (Some rule) none h = absurd cc
 seven : (a b c d e f g : List ℕ) (n : ℕ) → length (a ++ b ++ c ++ d ++ e ++ f ++ g) ≡ n → n ≡ length a + length b + length c + length d + length e + length f + length g
 seven a b c d e f g n whole = let parts = simp length-append at whole in omega (arith, parts)
 
-member_short : (name : List ℕ) (shown : Status) → length name ≤ 32 → StatusIsInRange shown → length (member_text name shown) ≤ 124
+member_short : (name : List ℕ) (shown : Status) → length name ≤ 32 → CacheStatusIsInRange shown → length (member_text name shown) ≤ 124
 member_short name shown named is =
     let how = how_short shown.how in
     let came = came_short shown.fwd_status is.came in
@@ -117,7 +117,7 @@ capped_low n = omega arith
 age_short : (e : Stored) (now : ℕ) → length (decimal (age_of e.times now)) ≤ 10
 age_short e now = counted_short (age_of e.times now) (capped_low _)
 
-module _ (name : List ℕ) (fields : List Field) (e : Stored) (now : ℕ) (shown : Status) (named : length name ≤ 32) (is : StatusIsInRange shown) where
+module _ (name : List ℕ) (fields : List Field) (e : Stored) (now : ℕ) (shown : Status) (named : length name ≤ 32) (is : CacheStatusIsInRange shown) where
   abbrev age : List Field
   age = line (codes "Age") (decimal (age_of e.times now)) ∷ []
 
@@ -183,7 +183,7 @@ room_left fields room =
     let bytes = leb-true (length (field_lines_text fields) + 256) 32768 parts.1 in
     record { few = omega (arith, lines); short = omega (arith, bytes) }
 
-module _ (name : List ℕ) (fields : List Field) (e : Stored) (now : ℕ) (shown : Status) (named : length name ≤ 32) (is : StatusIsInRange shown) (are : AreWithin 96 32512 fields) (length_is : Option ℕ) (close : Bool) where
+module _ (name : List ℕ) (fields : List Field) (e : Stored) (now : ℕ) (shown : Status) (named : length name ≤ 32) (is : CacheStatusIsInRange shown) (are : AreWithin 96 32512 fields) (length_is : Option ℕ) (close : Bool) where
   lines_fit : length (stored_fields_as_sent name fields e now shown ++ content_length_fields length_is ++ connection_close_fields close) ≤ 100
   lines_fit =
       let all = three (stored_fields_as_sent name fields e now shown) (content_length_fields length_is) (connection_close_fields close) (length (stored_fields_as_sent name fields e now shown ++ content_length_fields length_is ++ connection_close_fields close)) refl in
@@ -206,22 +206,22 @@ module _ (name : List ℕ) (fields : List Field) (e : Stored) (now : ℕ) (shown
       omega (arith, all, first, lines, one, other, short)
 
 -- cookies may be taken out
-others_within : (removes : Bool) (fields : List Field) → AreWithin 96 32512 fields → AreWithin 96 32512 (without_cookies removes fields)
+others_within : (removes : Bool) (fields : List Field) → AreWithin 96 32512 fields → AreWithin 96 32512 (without_set_cookie_if removes fields)
 others_within true fields are = within_fewer 96 32512 (λ f. not (is_named (codes "Set-Cookie") f)) fields are
 others_within false fields are = are
 
 -- and so may tags
-seen_within : (policy : Policy) (fields : List Field) → AreWithin 96 32512 fields → AreWithin 96 32512 (fields_shown_by_line policy fields)
-seen_within policy fields are = by_test policy.hides_tags (others_within policy.removes_cookies fields are)
+seen_within : (policy : Policy) (fields : List Field) → AreWithin 96 32512 fields → AreWithin 96 32512 (fields_shown_under_policy policy fields)
+seen_within policy fields are = by_test policy.hides_tags (others_within policy.removes_set_cookie fields are)
   where
-    by_test : (hides : Bool) → AreWithin 96 32512 (without_cookies policy.removes_cookies fields) → AreWithin 96 32512 (fields_without_hidden_tags hides (without_cookies policy.removes_cookies fields))
-    by_test true left = within_fewer 96 32512 (λ f. not (is_named (codes "Cache-Tag") f)) (without_cookies policy.removes_cookies fields) left
+    by_test : (hides : Bool) → AreWithin 96 32512 (without_set_cookie_if policy.removes_set_cookie fields) → AreWithin 96 32512 (fields_without_hidden_tags hides (without_set_cookie_if policy.removes_set_cookie fields))
+    by_test true left = within_fewer 96 32512 (λ f. not (is_named (codes "Cache-Tag") f)) (without_set_cookie_if policy.removes_set_cookie fields) left
     by_test false left = left
 
 pub fits_where_room_is_left : HeadWithRoomIsWithinReaderLimits
 fits_where_room_is_left policy most now name e shown asked room named is final small within = record {
-  few = lines_fit name (fields_shown_by_line policy e.fields) e now shown named is (seen_within policy e.fields (room_left e.fields room)) (cond ((e.status == 204) || (e.status == 304)) None (Some (length e.content))) asked.close;
-  short = bytes_fit name (fields_shown_by_line policy e.fields) e now shown named is (seen_within policy e.fields (room_left e.fields room)) (cond ((e.status == 204) || (e.status == 304)) None (Some (length e.content))) asked.close e.status (omega (arith, final)) (shown_small ((e.status == 204) || (e.status == 304)));
+  few = lines_fit name (fields_shown_under_policy policy e.fields) e now shown named is (seen_within policy e.fields (room_left e.fields room)) (cond ((e.status == 204) || (e.status == 304)) None (Some (length e.content))) asked.close;
+  short = bytes_fit name (fields_shown_under_policy policy e.fields) e now shown named is (seen_within policy e.fields (room_left e.fields room)) (cond ((e.status == 204) || (e.status == 304)) None (Some (length e.content))) asked.close e.status (omega (arith, final)) (shown_small ((e.status == 204) || (e.status == 304)));
   content = within;
 }
   where
@@ -229,7 +229,7 @@ fits_where_room_is_left policy most now name e shown asked room named is final s
     shown_small true = tt
     shown_small false = small
 
-pub fits_as_304_where_room_is_left : HeadWithRoomAs304IsWithinReaderLimits
+pub fits_as_304_where_room_is_left : HeadWithRoomSentAs304IsWithinReaderLimits
 fits_as_304_where_room_is_left most now name e shown asked room named is =
     let carried = within_fewer 96 32512 (is_field_of_304 (has_field e.fields (codes "ETag"))) e.fields (room_left e.fields room) in record {
       few = lines_fit name (fields_of_304 e.fields) e now shown named is carried None asked.close;

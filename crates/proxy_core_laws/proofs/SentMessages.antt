@@ -5,7 +5,7 @@ use Rattle.std.specs.List.{AllByRecursion}
 use Rattle.std.specs.Option.{option_and_then}
 use Rattle.httparse.specs.Grammar.{IsToken}
 use Rattle.hx_policy.specs.declared.words.Policy.{Policy}
-use Rattle.hx_fields.specs.declared.limits.TheConstants.{END_OF_TIME}
+use Rattle.hx_fields.specs.declared.limits.TheConstants.{START_OF_YEAR_10000}
 use Rattle.hx_fields.specs.Line.{Field}
 use Rattle.hx_framing.specs.declared.messages.Response.{Response}
 use Rattle.hx_framing.specs.Reading.{Spelled}
@@ -23,14 +23,14 @@ use Rattle.proxy_core.specs.Scopes.{serials_purged_by_request}
 use Rattle.proxy_core.specs.Allowing.{verdict_of_asked}
 use Rattle.hx_allow.specs.declared.verdicts.Verdict.{Verdict}
 use Rattle.hx_allow.specs.declared.verdicts.Verdict.TheVariants as verdict
-use Rattle.hx_allow.specs.declared.verdicts.RequestRoute.{RequestRoute}
+use Rattle.hx_allow.specs.declared.verdicts.RouteOverLine.{RouteOverLine}
 use Rattle.hx_hop.specs.declared.request_view.Asked.{Asked}
 use Rattle.hx_hop.specs.declared.conditions.Conditions.{Conditions}
 use Rattle.hx_hop.specs.Asking.{asked_with_target}
 use Rattle.hx_hop.specs.Forwarding.{forwarded_of}
 use Rattle.hx_hop.specs.Moments.{date_text_of}
 use Rattle.hx_store.specs.Stored.{Stored}
-use Rattle.hx_store.specs.Shelf.{find_entry}
+use Rattle.hx_store.specs.Shelf.{find_entry_of_serial}
 use Rattle.hx_reuse.specs.Conditions.{withholds_conditions}
 use Rattle.hx_reuse.specs.FilledRanges.{fetches_whole_for_range, request_without_range}
 use Rattle.hx_reuse.specs.Rules.{decision_of}
@@ -44,7 +44,7 @@ use Rattle.hx_status.specs.declared.cause.FailKind.TheVariants.{BadAnswer}
 use Rattle.hx_status.specs.Refusals.{refusal_text}
 use Rattle.hx_validate.specs.NotModified.{stored_gets_304}
 use Rattle.hx_validate.specs.Room.{head_leaves_room}
-use Rattle.hx_validate.specs.Validators.{conditions_of, has_validator}
+use Rattle.hx_validate.specs.Validators.{validating_conditions_of, has_validator}
 use Rattle.hx_validate.specs.declared.ranges.RangeAnswer.{RangeAnswer}
 use Rattle.hx_validate.specs.declared.ranges.RangeAnswer.TheVariants.{Whole, Part, Unsatisfiable}
 use Rattle.hx_hop_laws.specs.OneMessage.{ConditionsAreFieldValues, RequestIsWithinLimits}
@@ -53,27 +53,27 @@ use Rattle.hx_storable.specs.declared.rule.StoreRule.{StoreRule}
 use Rattle.proxy_core.specs.Storing.{storing_rule_to_explain}
 use Rattle.proxy_core.specs.declared.steps.condition.Condition.{Condition}
 use Rattle.proxy_core.specs.declared.open.exchange.Exchange.{Exchange}
-use Rattle.proxy_core.specs.declared.steps.fallback.Fallback.{Fallback}
-use Rattle.proxy_core.specs.declared.steps.fallback.Fallback.TheVariants.{Sends, Refuses}
+use Rattle.proxy_core.specs.declared.steps.fallback.FallbackDecision.{FallbackDecision}
+use Rattle.proxy_core.specs.declared.steps.fallback.FallbackDecision.TheVariants.{Sends, Refuses}
 use Rattle.proxy_core.specs.declared.event.Event.{Event}
 use Rattle.proxy_core.specs.declared.event.Event.TheVariants.{Arrive, Answer, Fail, Wake, Abandon, Overdue}
 use Rattle.proxy_core.specs.declared.outcome.Outcome.{Outcome}
 use Rattle.proxy_core.specs.declared.outcome.Outcome.TheVariants.{Forward}
-use Rattle.proxy_core.specs.Histories.{held_entries, held_entry, held_serials, next_serial, open_exchanges}
-use Rattle.proxy_core.specs.Outcomes.{outcome_of_allowed_request, outcome_of_answer, outcome_of_arrival, outcome_of_failure, fallback_for_failed_answer, fault_at_exchange, find_exchange, forward_text, exchange_id_of_event, is_error_status, is_only_if_cached, fault_if_not_forwarded, fault_if_not_released, outcome_for_exchange, outcome_of_passing_on, outcome_of_passing_on_or_stale, outcome_of_refusal, outcome_of_304, outcome_of_waiting_or_forwarding, serial_of_stored_answer, outcome_without_stored_response, outcome_of_wake}
+use Rattle.proxy_core.specs.Histories.{held_entries, entry_held_after, held_serials, next_serial, open_exchanges}
+use Rattle.proxy_core.specs.Outcomes.{outcome_of_allowed_request, outcome_of_answer, outcome_of_arrival, outcome_of_failure, fallback_for_failed_answer, fault_at_exchange, find_exchange, forward_text, exchange_id_of_event, is_stale_if_error_status, is_only_if_cached, fault_if_not_forwarded, fault_if_not_released, outcome_of_event_at_exchange, outcome_of_passing_on, outcome_of_passing_on_or_stale, outcome_of_refusal, outcome_of_304, outcome_of_waiting_or_forwarding, serial_of_stored_answer, outcome_where_reuse_rule_applies, outcome_of_wake}
 use Rattle.proxy_core.specs.Moments.{moment_too_late_fault}
 use Rattle.proxy_core.specs.ReadAnswers.{ResponseWasReadFromAStream, EventIsReadFromAStream}
-use Rattle.proxy_core.specs.Replies.{answer_in_range_text, fields_of_answer_416, fields_of_partial_answer, range_of_answer, text_in_place_of_answer, client_wants_304_for_answer, stored_response_as_sent, is_head, not_modified_answer_text, not_modified_text, passed_answer_text, whole_answer_text, purge_reply_text, refusal_reply_text, cache_status_of_sent, stored_reply_text, text_of_stored_in_form}
-use Rattle.proxy_core.specs.Sending.{EventHasMomentAndRequest, ReplyIsTheStoredResponse}
-use Rattle.proxy_core.specs.State.{stored_response_as_used, serial_used_by_outcome}
+use Rattle.proxy_core.specs.Replies.{text_of_answer_or_its_range, fields_of_answer_416, fields_of_partial_answer, part_of_answer_to_send, text_in_place_of_answer, client_wants_304_for_answer, stored_response_cut_to_range, is_head, not_modified_answer_text, not_modified_text, passed_answer_text, whole_answer_text, purge_reply_text, refusal_reply_text, cache_status_of_sent, stored_reply_text, text_of_stored_sent_as}
+use Rattle.proxy_core.specs.Sending.{EventHasMomentAndRequest, ReplySendsTheStoredResponse}
+use Rattle.proxy_core.specs.State.{stored_response_freshened_by_event, serial_used_by_outcome}
 use Rattle.proxy_core.specs.Storing.{is_304_without_condition}
 use Rattle.proxy_core.specs.Traces.{Item}
-use Rattle.proxy_core.specs.Validating.{condition_about_serial, condition_about_stored, is_304_to_own_conditions, freshened_by_304, conditions_to_send, stored_response_validated}
+use Rattle.proxy_core.specs.Validating.{condition_to_revalidate_serial, condition_to_revalidate_stored, is_304_to_own_conditions, freshened_by_304, conditions_to_send, stored_response_validated_by_304}
 use Rattle.proxy_core.proofs.SentBeside.{led_over, sent_over, unless_sent}
 use Rattle.proxy_core.proofs.SentResponses.{sends_what_is_held}
 use Rattle.proxy_core_laws.specs.OneResponse.{partial_answer_as_sent, response_sent_in_place_of_answer, not_modified_answer_as_sent, passed_answer_in_form_as_sent, proxys_refusal_as_sent, purge_reply_as_sent, whole_answer_as_sent}
 use Rattle.proxy_core_laws.specs.StoredReplies.{StoredResponseIsSendable, stored_sent_as_304, stored_sent_whole}
-use Rattle.proxy_core_laws.specs.SentMessages.{MessagesOfTraceWereRead, MessageOfEventWasRead, OutcomeIsOneMessage, BytesAreOneRequest, BytesAreOneResponse, RequestWasRead, OneRequestIsNeitherTwoNorAPart, OneResponseIsNeitherTwoNorAPart, EachStepSendsOneMessage, event_is_to_head}
+use Rattle.proxy_core_laws.specs.SentMessages.{MessagesOfTraceWereRead, MessageOfEventWasRead, OutcomeIsOneMessage, BytesAreOneRequest, BytesAreOneResponse, RequestWasRead, OneRequestIsNeitherTwoNorAPart, OneResponseIsNeitherTwoNorAPart, EachStepSendsAtMostOneMessage, event_is_to_head}
 use Rattle.proxy_core_laws.proofs.FilledRequests.{forwards_one_whole}
 use Rattle.proxy_core_laws.proofs.OneResponse.{passes_one_response, purges_as_one_response, refuses_as_one_response}
 use Rattle.proxy_core_laws.proofs.StoredReplies.{sends_a_304_as_one, sends_whole_as_one}
@@ -129,21 +129,21 @@ one_request name asked true keeps conditions token is are = record {
 short_text : (now : ℕ) (cause : Cause) (close head : Bool) → length (sent_response_head_text (proxys_refusal_as_sent now cause close head)) ≤ 32768 → length (refusal_text cause) < 2 ^ 64
 short_text now cause close head short = let parts = simp length-append at short in omega (arith, parts)
 
-pub one_refusal : (now : ℕ) (cause : Cause) (close head : Bool) → now < END_OF_TIME → BytesAreOneResponse head (refusal_reply_text (date_text_of now) cause close head)
+pub one_refusal : (now : ℕ) (cause : Cause) (close head : Bool) → now < START_OF_YEAR_10000 → BytesAreOneResponse head (refusal_reply_text (date_text_of now) cause close head)
 one_refusal now cause close head early = record {
   sent = proxys_refusal_as_sent now cause close head;
   text_is = refl;
   alone = λ most small limits over behind. refuses_as_one_response most now cause close head early small (short_text now cause close head limits.short) limits over behind;
 }
 
-pub one_purge : (now count : ℕ) (close head : Bool) → now < END_OF_TIME → BytesAreOneResponse head (purge_reply_text (date_text_of now) count close)
+pub one_purge : (now count : ℕ) (close head : Bool) → now < START_OF_YEAR_10000 → BytesAreOneResponse head (purge_reply_text (date_text_of now) count close)
 one_purge now count close head early = record {
   sent = purge_reply_as_sent now count close;
   text_is = refl;
   alone = λ most small limits over behind. purges_as_one_response most now count close head early limits over behind;
 }
 
-one_passed : (policy : Policy) (rule : Option StoreRule) (name : List ℕ) (x : Exchange) (r : Response) (now : ℕ) (stored : Bool) → now < END_OF_TIME → IsToken name → ResponseWasReadFromAStream r → BytesAreOneResponse (is_head x.asked) (passed_answer_text policy name x r now stored rule)
+one_passed : (policy : Policy) (rule : Option StoreRule) (name : List ℕ) (x : Exchange) (r : Response) (now : ℕ) (stored : Bool) → now < START_OF_YEAR_10000 → IsToken name → ResponseWasReadFromAStream r → BytesAreOneResponse (is_head x.asked) (passed_answer_text policy name x r now stored rule)
 one_passed policy rule name x r now stored early token is = record {
   sent = passed_answer_in_form_as_sent policy name x r now stored rule;
   text_is = by_test (client_wants_304_for_answer policy x r now);
@@ -156,42 +156,42 @@ one_passed policy rule name x r now stored early token is = record {
     by_room true status own content = refl
     by_room false status own content = refl
 
-    by_answer : (answer : RangeAnswer) → answer_in_range_text policy name x r now stored rule answer ≡ sent_response_text (partial_answer_as_sent policy name x r now stored rule answer)
+    by_answer : (answer : RangeAnswer) → text_of_answer_or_its_range policy name x r now stored rule answer ≡ sent_response_text (partial_answer_as_sent policy name x r now stored rule answer)
     by_answer Whole = refl
     by_answer (Part first last) = by_room (head_leaves_room (fields_of_partial_answer r now first last)) 206 (fields_of_partial_answer r now first last) (slice_range r.content first (last + 1))
     by_answer Unsatisfiable = by_room (head_leaves_room (fields_of_answer_416 r now)) 416 (fields_of_answer_416 r now) []
 
-    by_test : (has : Bool) → cond has (not_modified_answer_text policy name x r now stored rule) (answer_in_range_text policy name x r now stored rule (range_of_answer policy x r now))
-        ≡ sent_response_text (cond has (not_modified_answer_as_sent policy name x r now stored rule) (partial_answer_as_sent policy name x r now stored rule (range_of_answer policy x r now)))
+    by_test : (has : Bool) → cond has (not_modified_answer_text policy name x r now stored rule) (text_of_answer_or_its_range policy name x r now stored rule (part_of_answer_to_send policy x r now))
+        ≡ sent_response_text (cond has (not_modified_answer_as_sent policy name x r now stored rule) (partial_answer_as_sent policy name x r now stored rule (part_of_answer_to_send policy x r now)))
     by_test true = refl
-    by_test false = by_answer (range_of_answer policy x r now)
+    by_test false = by_answer (part_of_answer_to_send policy x r now)
 
 -- ---- what isn't a stored response, by the cases of a step
 
 never : {C : Type 0} (s : ℕ) → ◌≡◌ {A = Option ℕ} (Some s) None → C
 never s h = cc
 
-module _ (table : Table) (es : List Stored) (token : IsToken table.name) (fit : (against : Option ℕ) → IfSome (conditions_to_send (condition_about_serial es against)) ConditionsAreFieldValues) where
-  module _ (now : ℕ) (early : now < END_OF_TIME) (asked : Asked) (is : RequestWasRead asked) where
-    forward_one : (line : RequestRoute) (condition : Option Condition) → IfSome (conditions_to_send condition) ConditionsAreFieldValues → OutcomeIsOneMessage table.name (is_head asked) (Forward line (forward_text table line asked condition))
+module _ (table : Table) (es : List Stored) (token : IsToken table.name) (fit : (against : Option ℕ) → IfSome (conditions_to_send (condition_to_revalidate_serial es against)) ConditionsAreFieldValues) where
+  module _ (now : ℕ) (early : now < START_OF_YEAR_10000) (asked : Asked) (is : RequestWasRead asked) where
+    forward_one : (line : RouteOverLine) (condition : Option Condition) → IfSome (conditions_to_send condition) ConditionsAreFieldValues → OutcomeIsOneMessage table.name (is_head asked) (Forward line (forward_text table line asked condition))
     forward_one line condition are = one_request table.name asked (fetches_whole_for_range (policy_of table.lines line) asked) (withholds_conditions (policy_of table.lines line) asked) (conditions_to_send condition) token is are
 
     refused_one : (cause : Cause) → OutcomeIsOneMessage table.name (is_head asked) (outcome_of_refusal now cause asked)
     refused_one cause = one_refusal now cause asked.close (is_head asked) early
 
-    sent_on_one : (line : RequestRoute) (condition : Option Condition) (leader : Option ℕ) → IfSome (conditions_to_send condition) ConditionsAreFieldValues → OutcomeIsOneMessage table.name (is_head asked) (outcome_of_waiting_or_forwarding table line asked condition leader)
+    sent_on_one : (line : RouteOverLine) (condition : Option Condition) (leader : Option ℕ) → IfSome (conditions_to_send condition) ConditionsAreFieldValues → OutcomeIsOneMessage table.name (is_head asked) (outcome_of_waiting_or_forwarding table line asked condition leader)
     sent_on_one line condition (Some leader) are = tt
     sent_on_one line condition None are = forward_one line condition are
 
-    unanswered_one : (xs : List Exchange) (line : RequestRoute) (rule : ReuseRule) (against : Option ℕ) (b : Bool) → serial_used_by_outcome (outcome_without_stored_response table es xs line now asked rule (condition_about_serial es against) b) ≡ None →
-        OutcomeIsOneMessage table.name (is_head asked) (outcome_without_stored_response table es xs line now asked rule (condition_about_serial es against) b)
+    unanswered_one : (xs : List Exchange) (line : RouteOverLine) (rule : ReuseRule) (against : Option ℕ) (b : Bool) → serial_used_by_outcome (outcome_where_reuse_rule_applies table es xs line now asked rule (condition_to_revalidate_serial es against) b) ≡ None →
+        OutcomeIsOneMessage table.name (is_head asked) (outcome_where_reuse_rule_applies table es xs line now asked rule (condition_to_revalidate_serial es against) b)
     unanswered_one xs line rule against true unused = refused_one (OnlyIfCached rule)
     unanswered_one xs line rule against false unused =
         unless_sent (λ (o : Outcome). serial_used_by_outcome o ≡ None → OutcomeIsOneMessage table.name (is_head asked) o) table es line now asked (sent_over table es xs line now asked rule)
-        (outcome_of_waiting_or_forwarding table line asked (condition_about_serial es against) (led_over table es xs line asked rule)) (λ s is used. never s used)
-        (λ none. sent_on_one line (condition_about_serial es against) (led_over table es xs line asked rule) (fit against)) unused
+        (outcome_of_waiting_or_forwarding table line asked (condition_to_revalidate_serial es against) (led_over table es xs line asked rule)) (λ s is used. never s used)
+        (λ none. sent_on_one line (condition_to_revalidate_serial es against) (led_over table es xs line asked rule) (fit against)) unused
 
-    allowed_one : (xs : List Exchange) (line : RequestRoute) (d : Decision) → serial_used_by_outcome (outcome_of_allowed_request table es xs line now asked d) ≡ None → OutcomeIsOneMessage table.name (is_head asked) (outcome_of_allowed_request table es xs line now asked d)
+    allowed_one : (xs : List Exchange) (line : RouteOverLine) (d : Decision) → serial_used_by_outcome (outcome_of_allowed_request table es xs line now asked d) ≡ None → OutcomeIsOneMessage table.name (is_head asked) (outcome_of_allowed_request table es xs line now asked d)
     allowed_one xs line (decision.Hit serial) unused = never serial unused
     allowed_one xs line (decision.Forward rule against) unused = unanswered_one xs line rule against (is_only_if_cached asked) unused
 
@@ -202,12 +202,12 @@ module _ (table : Table) (es : List Stored) (token : IsToken table.name) (fit : 
     arrived_one xs (verdict.Looped line) unused = refused_one (Looped line)
     arrived_one xs (verdict.Purged line) unused = one_purge now (length (serials_purged_by_request asked es)) asked.close (is_head asked) early
 
-  module _ (now : ℕ) (early : now < END_OF_TIME) (x : Exchange) (is : RequestWasRead x.asked) where
+  module _ (now : ℕ) (early : now < START_OF_YEAR_10000) (x : Exchange) (is : RequestWasRead x.asked) where
     woken_one : (d : Decision) → serial_used_by_outcome (outcome_of_wake table es now x d) ≡ None → OutcomeIsOneMessage table.name (is_head x.asked) (outcome_of_wake table es now x d)
     woken_one (decision.Hit serial) unused = never serial unused
-    woken_one (decision.Forward rule against) unused = forward_one now early x.asked is x.line (condition_about_serial es against) (fit against)
+    woken_one (decision.Forward rule against) unused = forward_one now early x.asked is x.line (condition_to_revalidate_serial es against) (fit against)
 
-    failed_one : (kind : FailKind) (came : Option ℕ) (f : Fallback) → serial_used_by_outcome (outcome_of_failure table es now x kind came f) ≡ None → OutcomeIsOneMessage table.name (is_head x.asked) (outcome_of_failure table es now x kind came f)
+    failed_one : (kind : FailKind) (came : Option ℕ) (f : FallbackDecision) → serial_used_by_outcome (outcome_of_failure table es now x kind came f) ≡ None → OutcomeIsOneMessage table.name (is_head x.asked) (outcome_of_failure table es now x kind came f)
     failed_one kind came (Sends serial detail) unused = never serial unused
     failed_one kind came (Refuses rule error) unused = refused_one now early x.asked is (Origin kind rule error)
 
@@ -215,7 +215,7 @@ module _ (table : Table) (es : List Stored) (token : IsToken table.name) (fit : 
       passed_one : (rule : Option StoreRule) (stored : Option ℕ) → OutcomeIsOneMessage table.name (is_head x.asked) (outcome_of_passing_on table es now x r rule stored)
       passed_one rule stored = one_passed (policy_of table.lines x.line) rule table.name x r now (is_some stored) early token read
 
-      passed_unless_one : (next : Option ℕ) (b : Bool) (f : Fallback) → serial_used_by_outcome (outcome_of_passing_on_or_stale table es now x r next b f) ≡ None → OutcomeIsOneMessage table.name (is_head x.asked) (outcome_of_passing_on_or_stale table es now x r next b f)
+      passed_unless_one : (next : Option ℕ) (b : Bool) (f : FallbackDecision) → serial_used_by_outcome (outcome_of_passing_on_or_stale table es now x r next b f) ≡ None → OutcomeIsOneMessage table.name (is_head x.asked) (outcome_of_passing_on_or_stale table es now x r next b f)
       passed_unless_one next true (Sends serial detail) unused = never serial unused
       passed_unless_one next true (Refuses rule error) unused = passed_one (storing_rule_to_explain table x r now next) (serial_of_stored_answer table x r now next)
       passed_unless_one next false f unused = passed_one (storing_rule_to_explain table x r now next) (serial_of_stored_answer table x r now next)
@@ -229,25 +229,25 @@ module _ (table : Table) (es : List Stored) (token : IsToken table.name) (fit : 
       answered_one next d unused = by_304 (is_304_to_own_conditions x r) unused
         where
           again : Outcome
-          again = outcome_of_304 table es now x r (stored_response_validated es x r now) d
+          again = outcome_of_304 table es now x r (stored_response_validated_by_304 es x r now) d
 
           failing : Outcome
           failing = outcome_of_failure table es now x BadAnswer (Some r.status) (fallback_for_failed_answer (policy_of table.lines x.line) es x.asked now d)
 
           passing : Outcome
-          passing = outcome_of_passing_on_or_stale table es now x r next (is_error_status r.status) (fallback_for_failed_answer (policy_of table.lines x.line) es x.asked now d)
+          passing = outcome_of_passing_on_or_stale table es now x r next (is_stale_if_error_status r.status) (fallback_for_failed_answer (policy_of table.lines x.line) es x.asked now d)
 
           by_unasked : (b : Bool) → serial_used_by_outcome (cond b failing passing) ≡ None → OutcomeIsOneMessage table.name (is_head x.asked) (cond b failing passing)
           by_unasked true none = failed_one BadAnswer (Some r.status) (fallback_for_failed_answer (policy_of table.lines x.line) es x.asked now d) none
-          by_unasked false none = passed_unless_one next (is_error_status r.status) (fallback_for_failed_answer (policy_of table.lines x.line) es x.asked now d) none
+          by_unasked false none = passed_unless_one next (is_stale_if_error_status r.status) (fallback_for_failed_answer (policy_of table.lines x.line) es x.asked now d) none
 
           by_304 : (b : Bool) → serial_used_by_outcome (cond b again (cond (is_304_without_condition (policy_of table.lines x.line) x.asked r) failing passing)) ≡ None
               → OutcomeIsOneMessage table.name (is_head x.asked) (cond b again (cond (is_304_without_condition (policy_of table.lines x.line) x.asked r) failing passing))
-          by_304 true none = revalidated_one (stored_response_validated es x r now) d none
+          by_304 true none = revalidated_one (stored_response_validated_by_304 es x r now) d none
           by_304 false none = by_unasked (is_304_without_condition (policy_of table.lines x.line) x.asked r) none
 
   unsent_one : (xs : List Exchange) (x : Option Exchange) (next : Option ℕ) (event : Event) → fault_at_exchange x event ≡ None → MessageOfEventWasRead event → ((z : Exchange) → x ≡ Some z → RequestWasRead z.asked)
-      → serial_used_by_outcome (outcome_for_exchange table es xs x next event) ≡ None → OutcomeIsOneMessage table.name (event_is_to_head x event) (outcome_for_exchange table es xs x next event)
+      → serial_used_by_outcome (outcome_of_event_at_exchange table es xs x next event) ≡ None → OutcomeIsOneMessage table.name (event_is_to_head x event) (outcome_of_event_at_exchange table es xs x next event)
   unsent_one xs (Some x) next (Arrive now id asked) free is open_read unused = absurd cc
   unsent_one xs None next (Arrive now id asked) free is open_read unused = arrived_one now (in_time now free) asked is xs (verdict_of_asked table asked) unused
   unsent_one xs (Some x) next (Answer now id r) free is open_read unused =
@@ -277,26 +277,26 @@ about_head None (Wake t id) now asked is = absurd is
 about_head x (Abandon id) now asked is = absurd is
 about_head x (Overdue id) now asked is = absurd is
 
-module _ (table : Table) (held : List Stored) (x : Option Exchange) (event : Event) (outcome : Outcome) (s : ℕ) (is : ReplyIsTheStoredResponse table held x event outcome s) (token : IsToken table.name) where
+module _ (table : Table) (held : List Stored) (x : Option Exchange) (event : Event) (outcome : Outcome) (s : ℕ) (is : ReplySendsTheStoredResponse table held x event outcome s) (token : IsToken table.name) where
   abbrev form : Stored
-  form = stored_response_as_used x event is.response
+  form = stored_response_freshened_by_event x event is.response
 
   one_stored : StoredResponseIsSendable form → length form.content < 2 ^ 64 → BytesAreOneResponse (is_head is.asked) (stored_reply_text table.name form is.now is.info is.asked)
   one_stored sendable small = by_test (stored_gets_304 is.asked form)
     where
-      by_test : (t : Bool) → BytesAreOneResponse (is_head is.asked) (cond t (not_modified_text table.name form is.now is.info is.asked) (text_of_stored_in_form table.name (stored_response_as_sent is.info.policy is.asked form) form is.now is.info is.asked))
+      by_test : (t : Bool) → BytesAreOneResponse (is_head is.asked) (cond t (not_modified_text table.name form is.now is.info is.asked) (text_of_stored_sent_as table.name (stored_response_cut_to_range is.info.policy is.asked form) form is.now is.info is.asked))
       by_test true = record {
         sent = stored_sent_as_304 table.name form is.now (cache_status_of_sent 304 form is.now is.info) is.asked;
         text_is = refl;
         alone = λ most little limits over behind. sends_a_304_as_one most is.now table.name form (cache_status_of_sent 304 form is.now is.info) is.asked sendable token limits over behind;
       }
       by_test false = record {
-        sent = stored_sent_whole is.info.policy table.name (stored_response_as_sent is.info.policy is.asked form) is.now (cache_status_of_sent (stored_response_as_sent is.info.policy is.asked form).status form is.now is.info) is.asked;
+        sent = stored_sent_whole is.info.policy table.name (stored_response_cut_to_range is.info.policy is.asked form) is.now (cache_status_of_sent (stored_response_cut_to_range is.info.policy is.asked form).status form is.now is.info) is.asked;
         text_is = text_of_form table.name form is.now is.info is.asked;
         alone = λ most little limits over behind.
-            subst (λ (bytes : List ℕ). ReadsResponse most (is_head is.asked) over (bytes ++ behind) (Spelled (response_as_read_back (is_head is.asked) (stored_sent_whole is.info.policy table.name (stored_response_as_sent is.info.policy is.asked form) is.now (cache_status_of_sent (stored_response_as_sent is.info.policy is.asked form).status form is.now is.info) is.asked)) behind))
+            subst (λ (bytes : List ℕ). ReadsResponse most (is_head is.asked) over (bytes ++ behind) (Spelled (response_as_read_back (is_head is.asked) (stored_sent_whole is.info.policy table.name (stored_response_cut_to_range is.info.policy is.asked form) is.now (cache_status_of_sent (stored_response_cut_to_range is.info.policy is.asked form).status form is.now is.info) is.asked)) behind))
             (sym (text_of_form table.name form is.now is.info is.asked))
-            (sends_whole_as_one is.info.policy most is.now table.name (stored_response_as_sent is.info.policy is.asked form) (cache_status_of_sent (stored_response_as_sent is.info.policy is.asked form).status form is.now is.info) is.asked
+            (sends_whole_as_one is.info.policy most is.now table.name (stored_response_cut_to_range is.info.policy is.asked form) (cache_status_of_sent (stored_response_cut_to_range is.info.policy is.asked form).status form is.now is.info) is.asked
             (form_sendable is.info.policy is.asked form sendable) token (form_small is.info.policy is.asked form small) limits over behind);
       }
 
@@ -322,19 +322,19 @@ answers_of (item ∷ past) is = (one item.event is.0, answers_of past is.1)
     one (Overdue id) h = tt
 
 -- the conditions that a held response gives
-conditions_held : (es : List Stored) → ((s : ℕ) (e : Stored) → find_entry s es ≡ Some e → StoredResponseIsSendable e) → (against : Option ℕ) → IfSome (conditions_to_send (condition_about_serial es against)) ConditionsAreFieldValues
+conditions_held : (es : List Stored) → ((s : ℕ) (e : Stored) → find_entry_of_serial s es ≡ Some e → StoredResponseIsSendable e) → (against : Option ℕ) → IfSome (conditions_to_send (condition_to_revalidate_serial es against)) ConditionsAreFieldValues
 conditions_held es sendable None = tt
-conditions_held es sendable (Some s) = by_found (find_entry s es) refl
+conditions_held es sendable (Some s) = by_found (find_entry_of_serial s es) refl
   where
-    by_validator : (e : Stored) (b : Bool) → StoredResponseIsSendable e → IfSome (conditions_to_send (cond b (Some (record { serial = e.serial; sent = conditions_of e.fields })) None)) ConditionsAreFieldValues
+    by_validator : (e : Stored) (b : Bool) → StoredResponseIsSendable e → IfSome (conditions_to_send (cond b (Some (record { serial = e.serial; sent = validating_conditions_of e.fields })) None)) ConditionsAreFieldValues
     by_validator e true is = conditions_fit e.fields is.fields
     by_validator e false is = tt
 
-    by_found : (o : Option Stored) → find_entry s es ≡ o → IfSome (conditions_to_send (option_and_then condition_about_stored o)) ConditionsAreFieldValues
+    by_found : (o : Option Stored) → find_entry_of_serial s es ≡ o → IfSome (conditions_to_send (option_and_then condition_to_revalidate_stored o)) ConditionsAreFieldValues
     by_found None found = tt
     by_found (Some e) found = by_validator e (has_validator e.fields) (sendable s e found)
 
-pub sends_one_message_each_time : EachStepSendsOneMessage
+pub sends_one_message_each_time : EachStepSendsAtMostOneMessage
 sends_one_message_each_time table start first item past table_of_members good begins read =
     by_used (serial_used_by_outcome item.outcome) refl
   where
@@ -353,9 +353,9 @@ sends_one_message_each_time table start first item past table_of_members good be
     answers : AllByRecursion (λ i. EventIsReadFromAStream i.event) (item ∷ past)
     answers = answers_of (item ∷ past) read
 
-    held_so : (s : ℕ) (e : Stored) → find_entry s es ≡ Some e → StoredResponseIsSendable e × (length e.content < 2 ^ 64)
+    held_so : (s : ℕ) (e : Stored) → find_entry_of_serial s es ≡ Some e → StoredResponseIsSendable e × (length e.content < 2 ^ 64)
     held_so s e found =
-        let at = found_held (held_entry table start past) (held_serials table start past) s e found in (
+        let at = found_held (entry_held_after table start past) (held_serials table start past) s e found in (
           holds_sendable table start first past good.1 (λ t f k. (begins t f k).sendable) answers.1 at.0 e at.1,
           fits_in_memory table start first past table_of_members begins good.1 answers.1 at.0 e at.1,
         )

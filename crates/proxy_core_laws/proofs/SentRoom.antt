@@ -13,7 +13,7 @@ use Rattle.hx_policy.specs.Policies.{lifetime_given_by_policy}
 use Rattle.hx_policy.specs.declared.words.Policy.{Policy}
 use Rattle.hx_allow.specs.Matching.{policy_of}
 use Rattle.hx_reuse.specs.Lifetimes.{lifetime_capped_at, lifetime_of_stored_response, lifetime_or_given_by_operator, lifetime_under_policy}
-use Rattle.hx_age.specs.Age.{age_of, lifetime_ended_at}
+use Rattle.hx_age.specs.Age.{age_of, lifetime_shortened_to_end_by}
 use Rattle.hx_age.specs.declared.lifetimes.Lifetime.{Lifetime}
 use Rattle.hx_age.specs.declared.moments.Times.{Times}
 use Rattle.hx_age.specs.Lifetime.{explicit_lifetime, lifetime_of, seconds_or_zero, seconds_from_date_to_expires}
@@ -32,14 +32,14 @@ use Rattle.proxy_core.specs.declared.event.Event.TheVariants.{Arrive, Answer, Fa
 use Rattle.proxy_core.specs.declared.outcome.Outcome.{Outcome}
 use Rattle.proxy_core.specs.declared.outcome.Outcome.TheVariants.{Reply as ReplyData}
 use Rattle.proxy_core.specs.declared.outcome.Reply.{Reply}
-use Rattle.proxy_core.specs.Histories.{held_entries, held_entry, held_serials, open_exchanges}
+use Rattle.proxy_core.specs.Histories.{held_entries, entry_held_after, held_serials, open_exchanges}
 use Rattle.proxy_core.specs.Outcomes.{find_exchange, exchange_id_of_event}
 use Rattle.proxy_core.specs.ReadAnswers.{ResponseWasReadFromAStream, EventIsReadFromAStream}
-use Rattle.proxy_core.specs.Replies.{stored_response_as_sent, fwd_status_of, is_head, not_modified_text, cache_status_of_sent, stored_reply_text, text_of_stored_in_form, ttl_of_stored}
-use Rattle.proxy_core.specs.Sending.{ReplyIsTheStoredResponse}
-use Rattle.proxy_core.specs.State.{stored_response_as_used}
+use Rattle.proxy_core.specs.Replies.{stored_response_cut_to_range, fwd_status_of, is_head, not_modified_text, cache_status_of_sent, stored_reply_text, text_of_stored_sent_as, ttl_of_stored}
+use Rattle.proxy_core.specs.Sending.{ReplySendsTheStoredResponse}
+use Rattle.proxy_core.specs.State.{stored_response_freshened_by_event}
 use Rattle.proxy_core.proofs.SentResponses.{sends_what_is_held}
-use Rattle.proxy_core_laws.specs.HeldHeads.{SecondsAreInRange, BytesAreReadBackAsOneResponse, StatusIsInRange, HeadWithRoomIsSentAsOneResponse}
+use Rattle.proxy_core_laws.specs.HeldHeads.{SecondsAreInRange, BytesAreReadBackAsOneResponse, CacheStatusIsInRange, HeadWithRoomIsSentAsOneResponse}
 use Rattle.proxy_core_laws.specs.SentMessages.{MessageOfEventWasRead, event_is_to_head}
 use Rattle.proxy_core_laws.specs.StoredReplies.{StoredResponseIsSendable, stored_sent_as_304, stored_sent_whole}
 use Rattle.proxy_core_laws.proofs.HeldReplies.{holds_sendable, left_so}
@@ -105,7 +105,7 @@ lifetime_under_low policy status fields = by_given (lifetime_of fields).explicit
     by_given false (Some n) = min-le_right n 2147483648
 
 -- and what a purge left of it
-until_low : (purge : Option ℕ) (times : Times) (l : Lifetime) → l.seconds ≤ 2147483648 → (lifetime_ended_at purge times l).seconds ≤ 2147483648
+until_low : (purge : Option ℕ) (times : Times) (l : Lifetime) → l.seconds ≤ 2147483648 → (lifetime_shortened_to_end_by purge times l).seconds ≤ 2147483648
 until_low None times l low = low
 until_low (Some moment) times l low = let less = min-le_left l.seconds (age_of times moment) in omega (arith, low, less)
 
@@ -114,16 +114,16 @@ left_counted policy e now =
     counted (lifetime_of_stored_response policy e).seconds (age_of e.times now)
     (until_low e.times.expired e.times (lifetime_under_policy policy e.status e.fields) (lifetime_under_low policy e.status e.fields)) (age_low e now)
 
-shown_of : (table : Table) (held : List Stored) (x : Option Exchange) (event : Event) (outcome : Outcome) (s : ℕ) (is : ReplyIsTheStoredResponse table held x event outcome s) → MessageOfEventWasRead event
-    → (status : ℕ) (e : Stored) → StatusIsInRange (cache_status_of_sent status e is.now is.info)
+shown_of : (table : Table) (held : List Stored) (x : Option Exchange) (event : Event) (outcome : Outcome) (s : ℕ) (is : ReplySendsTheStoredResponse table held x event outcome s) → MessageOfEventWasRead event
+    → (status : ℕ) (e : Stored) → CacheStatusIsInRange (cache_status_of_sent status e is.now is.info)
 shown_of table held x (Arrive now id asked) outcome s is read status e =
-    subst StatusIsInRange (sym (ap (cache_status_of_sent status e is.now) is.cache_status_matches.2.1)) (record { came = tt; left = left_counted (policy_of table.lines is.cache_status_matches.0) e is.now; is_held = refl })
+    subst CacheStatusIsInRange (sym (ap (cache_status_of_sent status e is.now) is.cache_status_matches.2.1)) (record { came = tt; left = left_counted (policy_of table.lines is.cache_status_matches.0) e is.now; is_held = refl })
 shown_of table held (Some x) (Answer now id r) outcome s is read status e =
-    subst StatusIsInRange (sym (ap (cache_status_of_sent status e is.now) is.cache_status_matches.1)) (record { came = came_low (Some r.status) status (read_low r read); left = left_counted (policy_of table.lines x.line) e is.now; is_held = refl })
+    subst CacheStatusIsInRange (sym (ap (cache_status_of_sent status e is.now) is.cache_status_matches.1)) (record { came = came_low (Some r.status) status (read_low r read); left = left_counted (policy_of table.lines x.line) e is.now; is_held = refl })
 shown_of table held (Some x) (Fail now id kind) outcome s is read status e =
-    subst StatusIsInRange (sym (ap (cache_status_of_sent status e is.now) is.cache_status_matches.1)) (record { came = tt; left = left_counted (policy_of table.lines x.line) e is.now; is_held = refl })
+    subst CacheStatusIsInRange (sym (ap (cache_status_of_sent status e is.now) is.cache_status_matches.1)) (record { came = tt; left = left_counted (policy_of table.lines x.line) e is.now; is_held = refl })
 shown_of table held (Some x) (Wake now id) outcome s is read status e =
-    subst StatusIsInRange (sym (ap (cache_status_of_sent status e is.now) is.cache_status_matches)) (record { came = tt; left = left_counted (policy_of table.lines x.line) e is.now; is_held = refl })
+    subst CacheStatusIsInRange (sym (ap (cache_status_of_sent status e is.now) is.cache_status_matches)) (record { came = tt; left = left_counted (policy_of table.lines x.line) e is.now; is_held = refl })
 shown_of table held None (Answer now id r) outcome s is read status e = absurd is.cache_status_matches
 shown_of table held None (Fail now id kind) outcome s is read status e = absurd is.cache_status_matches
 shown_of table held None (Wake now id) outcome s is read status e = absurd is.cache_status_matches
@@ -132,12 +132,12 @@ shown_of table held x (Overdue id) outcome s is read status e = absurd is.cache_
 
 -- ---- what is sent
 
-module _ (table : Table) (held : List Stored) (x : Option Exchange) (event : Event) (outcome : Outcome) (s : ℕ) (is : ReplyIsTheStoredResponse table held x event outcome s) (read : MessageOfEventWasRead event) (token : IsToken table.name) (short : length table.name ≤ 32) where
+module _ (table : Table) (held : List Stored) (x : Option Exchange) (event : Event) (outcome : Outcome) (s : ℕ) (is : ReplySendsTheStoredResponse table held x event outcome s) (read : MessageOfEventWasRead event) (token : IsToken table.name) (short : length table.name ≤ 32) where
   abbrev form : Stored
-  form = stored_response_as_used x event is.response
+  form = stored_response_freshened_by_event x event is.response
 
   abbrev as_sent : Stored
-  as_sent = stored_response_as_sent is.info.policy is.asked form
+  as_sent = stored_response_cut_to_range is.info.policy is.asked form
 
   abbrev whole_form : SentResponse
   whole_form = stored_sent_whole is.info.policy table.name as_sent is.now (cache_status_of_sent as_sent.status form is.now is.info) is.asked
@@ -151,7 +151,7 @@ module _ (table : Table) (held : List Stored) (x : Option Exchange) (event : Eve
       little_enough : length as_sent.content < 2 ^ 64
       little_enough = form_small is.info.policy is.asked form small
 
-      by_test : (t : Bool) → BytesAreReadBackAsOneResponse (is_head is.asked) (cond t (not_modified_text table.name form is.now is.info is.asked) (text_of_stored_in_form table.name (stored_response_as_sent is.info.policy is.asked form) form is.now is.info is.asked))
+      by_test : (t : Bool) → BytesAreReadBackAsOneResponse (is_head is.asked) (cond t (not_modified_text table.name form is.now is.info is.asked) (text_of_stored_sent_as table.name (stored_response_cut_to_range is.info.policy is.asked form) form is.now is.info is.asked))
       by_test true = record {
         sent = stored_sent_as_304 table.name form is.now (cache_status_of_sent 304 form is.now is.info) is.asked;
         text_is = refl;
@@ -181,12 +181,12 @@ sends_what_leaves_room table start first serial e item past reply table_of_membe
     let is = sends_what_is_held table start first serial item past good used in
     let answers : AllByRecursion (λ i. EventIsReadFromAStream i.event) (item ∷ past) = answers_of (item ∷ past) read in
     let same : e ≡ is.response = some_same (sym found ∙ is.is_held) in
-    let at = found_held (held_entry table start past) (held_serials table start past) serial is.response is.is_held in
+    let at = found_held (entry_held_after table start past) (held_serials table start past) serial is.response is.is_held in
     let sendable = left_so x item.event is.response good.0.allowed answers.0 (holds_sendable table start first past good.1 (λ t f k. (begins t f k).sendable) answers.1 at.0 is.response at.1) in
     let small : length is.response.content < 2 ^ 64 = fits_in_memory table start first past table_of_members begins good.1 answers.1 at.0 is.response at.1 in
     let text = one_anyway table (held_entries table start past) x item.event item.outcome serial is read.0 (names_a_token table table_of_members) (names_are_short table table_of_members) sendable
     (subst (λ (c : List ℕ). length c < 2 ^ 64) (sym (used_content x item.event is.response)) small)
-    (subst (λ (f : Stored). head_leaves_room (stored_response_as_used x item.event f).fields ≡ true) same room)
+    (subst (λ (f : Stored). head_leaves_room (stored_response_freshened_by_event x item.event f).fields ≡ true) same room)
     in
     subst (λ (q : Reply). BytesAreReadBackAsOneResponse (event_is_to_head x item.event) q.bytes) (same_reply is.reply reply (sym is.outcome_is ∙ replied))
     (subst (λ (h : Bool). BytesAreReadBackAsOneResponse h is.reply.bytes) (about_head x item.event is.now is.asked is.about)

@@ -6,7 +6,7 @@ use Rattle.std.proofs.lemmas.Bool.{or_from}
 use Rattle.std.proofs.lemmas.List.Elements.{All-nil, All-cons, All-append, All-filter}
 use Rattle.std.proofs.lemmas.List.Folds.{list_any-append}
 use Rattle.httparse.specs.Grammar.{IsToken, is_token_byte}
-use Rattle.hx_fields.specs.declared.limits.TheConstants.{END_OF_TIME}
+use Rattle.hx_fields.specs.declared.limits.TheConstants.{START_OF_YEAR_10000}
 use Rattle.hx_fields.specs.Line.{Field}
 use Rattle.hx_fields.specs.FieldLines.{has_field, is_named}
 use Rattle.hx_framing.specs.declared.messages.Response.{Response}
@@ -26,8 +26,8 @@ use Rattle.hx_hop_laws.proofs.SentRequests.{line_of}
 use Rattle.hx_hop_laws.proofs.SentResponses.{IsCleanAnswer, clean, dated_fit, dated_without, stripped_without}
 use Rattle.hx_policy.specs.declared.words.Policy.{Policy}
 use Rattle.proxy_core.specs.Replies.{content_unless_head, is_head, line}
-use Rattle.proxy_core.specs.Validating.{without_cookies}
-use Rattle.proxy_core_laws.specs.StoredReplies.{FreshenedResponseIsSendable, Stored304IsSentAsOneResponse, StoredWholeIsSentAsOneResponse, StoredAnswerIsSendable, stored_fields_as_sent, fields_shown_by_line, stored_sent_as_304, stored_sent_whole}
+use Rattle.proxy_core.specs.Validating.{without_set_cookie_if}
+use Rattle.proxy_core_laws.specs.StoredReplies.{FreshenedResponseIsSendable, Stored304IsSentAsOneResponse, StoredWholeIsSentAsOneResponse, StoredAnswerIsSendable, stored_fields_as_sent, fields_shown_under_policy, stored_sent_as_304, stored_sent_whole}
 use Rattle.proxy_core_laws.proofs.HiddenTags.{hidden_fit, hidden_without}
 use Rattle.proxy_core_laws.proofs.ReplyValues.{decimal_value, member_value}
 
@@ -37,7 +37,7 @@ pub widened : (h : Bool) (status : ℕ) → response_has_no_content false status
 widened true status none = refl
 widened false status none = none
 
-module _ (h : Bool) (r : Response) (now : ℕ) (is : IsCleanAnswer h r) (early : now < END_OF_TIME) where
+module _ (h : Bool) (r : Response) (now : ℕ) (is : IsCleanAnswer h r) (early : now < START_OF_YEAR_10000) where
   answer_fits : All FieldIsWritable (fields_with_valid_date (stripped r.fields) now)
   answer_fits = dated_fit (stripped r.fields) now early (All-filter (λ f. not (is_hop_by_hop_line r.fields f)) FieldIsWritable r.fields is.fields)
 
@@ -45,32 +45,32 @@ module _ (h : Bool) (r : Response) (now : ℕ) (is : IsCleanAnswer h r) (early :
   answer_without name none other = dated_without (stripped r.fields) now name (stripped_without r.fields name none) other
 
 -- cookies may be taken out
-others_fit : (removes : Bool) (fields : List Field) → All FieldIsWritable fields → All FieldIsWritable (without_cookies removes fields)
+others_fit : (removes : Bool) (fields : List Field) → All FieldIsWritable fields → All FieldIsWritable (without_set_cookie_if removes fields)
 others_fit true fields all = All-filter (λ f. not (is_named (codes "Set-Cookie") f)) FieldIsWritable fields all
 others_fit false fields all = all
 
-others_without : (removes : Bool) (fields : List Field) (name : List ℕ) → has_field fields name ≡ false → has_field (without_cookies removes fields) name ≡ false
+others_without : (removes : Bool) (fields : List Field) (name : List ℕ) → has_field fields name ≡ false → has_field (without_set_cookie_if removes fields) name ≡ false
 others_without true fields name none = list_any_fewer (λ f. not (is_named (codes "Set-Cookie") f)) (is_named name) fields none
 others_without false fields name none = none
 
 -- and so may tags
-seen_fit : (policy : Policy) (fields : List Field) → All FieldIsWritable fields → All FieldIsWritable (fields_shown_by_line policy fields)
-seen_fit policy fields all = hidden_fit policy.hides_tags (without_cookies policy.removes_cookies fields) (others_fit policy.removes_cookies fields all)
+seen_fit : (policy : Policy) (fields : List Field) → All FieldIsWritable fields → All FieldIsWritable (fields_shown_under_policy policy fields)
+seen_fit policy fields all = hidden_fit policy.hides_tags (without_set_cookie_if policy.removes_set_cookie fields) (others_fit policy.removes_set_cookie fields all)
 
-seen_without : (policy : Policy) (fields : List Field) (name : List ℕ) → has_field fields name ≡ false → has_field (fields_shown_by_line policy fields) name ≡ false
-seen_without policy fields name none = hidden_without policy.hides_tags (without_cookies policy.removes_cookies fields) name (others_without policy.removes_cookies fields name none)
+seen_without : (policy : Policy) (fields : List Field) (name : List ℕ) → has_field fields name ≡ false → has_field (fields_shown_under_policy policy fields) name ≡ false
+seen_without policy fields name none = hidden_without policy.hides_tags (without_set_cookie_if policy.removes_set_cookie fields) name (others_without policy.removes_set_cookie fields name none)
 
 pub stores_sendable : StoredAnswerIsSendable
 stores_sendable max_body serial now h ended bytes rest x r reads early =
     let is = clean max_body h ended bytes r rest reads in
     let answer : List Field = fields_with_valid_date (stripped r.fields) now in
-    let others : List Field = without_cookies x.removes_cookies answer in record {
+    let others : List Field = without_set_cookie_if x.removes_set_cookie answer in record {
       status = is.status;
-      fields = All-filter (λ f. not (is_named (codes "Age") f)) FieldIsWritable others (others_fit x.removes_cookies answer (answer_fits h r now is early));
+      fields = All-filter (λ f. not (is_named (codes "Age") f)) FieldIsWritable others (others_fit x.removes_set_cookie answer (answer_fits h r now is early));
       lengths = list_any_fewer (λ f. not (is_named (codes "Age") f)) (is_named (codes "content-length")) others
-          (others_without x.removes_cookies answer (codes "content-length") (answer_without h r now is early (codes "content-length") is.lengths refl));
+          (others_without x.removes_set_cookie answer (codes "content-length") (answer_without h r now is early (codes "content-length") is.lengths refl));
       codings = list_any_fewer (λ f. not (is_named (codes "Age") f)) (is_named (codes "transfer-encoding")) others
-          (others_without x.removes_cookies answer (codes "transfer-encoding") (answer_without h r now is early (codes "transfer-encoding") is.codings refl));
+          (others_without x.removes_set_cookie answer (codes "transfer-encoding") (answer_without h r now is early (codes "transfer-encoding") is.codings refl));
       without = λ none. is.without (widened h r.status none);
     }
 
@@ -87,13 +87,13 @@ freshens_sendable max_body now h ended bytes rest e r asked times further x send
     let answer : List Field = fields_with_valid_date (stripped r.fields) now in
     let fresh : List Field = filter (λ line. not (is_stored_field_replaced_by_304 answer line)) e.fields ++ filter is_field_taken_from_304 answer in record {
       status = sendable.status;
-      fields = others_fit x.removes_cookies fresh
+      fields = others_fit x.removes_set_cookie fresh
           (All-append FieldIsWritable (filter (λ line. not (is_stored_field_replaced_by_304 answer line)) e.fields) (filter is_field_taken_from_304 answer)
           (All-filter (λ line. not (is_stored_field_replaced_by_304 answer line)) FieldIsWritable e.fields sendable.fields)
           (All-filter is_field_taken_from_304 FieldIsWritable answer (answer_fits h r now is early)));
-      lengths = others_without x.removes_cookies fresh (codes "content-length")
+      lengths = others_without x.removes_set_cookie fresh (codes "content-length")
           (kept_without e.fields answer (codes "content-length") sendable.lengths (answer_without h r now is early (codes "content-length") is.lengths refl));
-      codings = others_without x.removes_cookies fresh (codes "transfer-encoding")
+      codings = others_without x.removes_set_cookie fresh (codes "transfer-encoding")
           (kept_without e.fields answer (codes "transfer-encoding") sendable.codings (answer_without h r now is early (codes "transfer-encoding") is.codings refl));
       without = sendable.without;
     }
@@ -128,9 +128,9 @@ pub sends_whole_as_one : StoredWholeIsSentAsOneResponse
 sends_whole_as_one policy most now name e shown asked sendable token small limits over behind =
     response_is_read_back (is_head asked) (stored_sent_whole policy name e now shown asked) most over behind (record {
       status = sendable.status;
-      fields = lines_fit name (fields_shown_by_line policy e.fields) e now shown token (seen_fit policy e.fields sendable.fields);
-      lengths = lines_without name (fields_shown_by_line policy e.fields) e now shown (codes "content-length") (seen_without policy e.fields (codes "content-length") sendable.lengths) refl refl;
-      codings = lines_without name (fields_shown_by_line policy e.fields) e now shown (codes "transfer-encoding") (seen_without policy e.fields (codes "transfer-encoding") sendable.codings) refl refl;
+      fields = lines_fit name (fields_shown_under_policy policy e.fields) e now shown token (seen_fit policy e.fields sendable.fields);
+      lengths = lines_without name (fields_shown_under_policy policy e.fields) e now shown (codes "content-length") (seen_without policy e.fields (codes "content-length") sendable.lengths) refl refl;
+      codings = lines_without name (fields_shown_under_policy policy e.fields) e now shown (codes "transfer-encoding") (seen_without policy e.fields (codes "transfer-encoding") sendable.codings) refl refl;
       small = shown_small ((e.status == 204) || (e.status == 304));
       without = none_sent (is_head asked);
       behind = announced (is_head asked);

@@ -3,7 +3,7 @@
 use Rattle.std.specs.Prelude.{◌≡◌, ◌⊎◌, ℕ, ◌≤◌, true, false, List, codes, Some, None, Any}
 use Rattle.hx_fields.specs.Line.{Field}
 use Rattle.hx_fields.specs.FieldLines.{combined_of, has_field, members_of, values_of}
-use Rattle.hx_age.specs.Dates.{single_valid_date}
+use Rattle.hx_age.specs.Dates.{moment_of_single_date}
 use Rattle.hx_store.specs.Stored.{Stored}
 use Rattle.hx_hop.specs.declared.request_view.Asked.{Asked}
 use Rattle.hx_validate.specs.EntityTags.{EntityTagParts, entity_tag_of}
@@ -32,13 +32,13 @@ IfNoneMatchFails request stored =
 -- 9111, section 4.3.2)
 abbrev pub StoredResponseLastChangedAt : Stored → ℕ → Type 0
 StoredResponseLastChangedAt entry moment =
-    (single_valid_date (values_of entry.fields (codes "Last-Modified")) ≡ Some moment)
-    ⊎ ((single_valid_date (values_of entry.fields (codes "Last-Modified")) ≡ None) × (entry.times.date ≡ moment))
+    (moment_of_single_date (values_of entry.fields (codes "Last-Modified")) ≡ Some moment)
+    ⊎ ((moment_of_single_date (values_of entry.fields (codes "Last-Modified")) ≡ None) × (entry.times.date ≡ moment))
 
 -- one valid date, and the stored response hasn't changed since
 abbrev pub IfModifiedSinceFails : List Field → Stored → Type 0
 IfModifiedSinceFails request entry =
-    (since : ℕ) × (changed : ℕ) × (single_valid_date (values_of request (codes "If-Modified-Since")) ≡ Some since)
+    (since : ℕ) × (changed : ℕ) × (moment_of_single_date (values_of request (codes "If-Modified-Since")) ≡ Some since)
     × StoredResponseLastChangedAt entry changed × (changed ≤ since)
 
 -- "A recipient MUST ignore If-Modified-Since if the request contains an If-None-Match header field"
@@ -51,10 +51,10 @@ ClientGetsA304 asked entry =
 
 -- ---- the statements
 
-abbrev pub MetConditionGetsA304 : Type 0
-MetConditionGetsA304 = (asked : Asked) (entry : Stored) → ClientGetsA304 asked entry → stored_gets_304 asked entry
+abbrev pub FailedConditionGetsA304 : Type 0
+FailedConditionGetsA304 = (asked : Asked) (entry : Stored) → ClientGetsA304 asked entry → stored_gets_304 asked entry
     ≡ true
 
-abbrev pub OnlyMatchingConditionGetsA304 : Type 0
-OnlyMatchingConditionGetsA304 = (asked : Asked) (entry : Stored) → stored_gets_304 asked entry ≡ true
+abbrev pub OnlyFailedConditionGetsA304 : Type 0
+OnlyFailedConditionGetsA304 = (asked : Asked) (entry : Stored) → stored_gets_304 asked entry ≡ true
     → ClientGetsA304 asked entry

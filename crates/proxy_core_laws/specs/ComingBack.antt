@@ -11,10 +11,10 @@ use Rattle.hx_allow.specs.TableLines.{Table}
 use Rattle.hx_allow.specs.Tables.{is_name}
 use Rattle.hx_allow.specs.Via.{times_in_via}
 use Rattle.hx_allow.specs.declared.verdicts.Verdict.TheVariants.{Allowed}
-use Rattle.hx_allow.specs.declared.verdicts.RequestRoute.{RequestRoute}
+use Rattle.hx_allow.specs.declared.verdicts.RouteOverLine.{RouteOverLine}
 use Rattle.proxy_core.specs.declared.outcome.Outcome.TheVariants.{Waits}
 use Rattle.proxy_core.specs.declared.event.Event.TheVariants.{Arrive}
-use Rattle.proxy_core.specs.Allowing.{verdict_of_asked, came_back}
+use Rattle.proxy_core.specs.Allowing.{verdict_of_asked, is_refused_as_loop}
 use Rattle.proxy_core.specs.Starts.{StoreAtStart}
 use Rattle.proxy_core.specs.Traces.{Item}
 use Rattle.proxy_core.specs.Histories.{IsGoodHistory}
@@ -22,11 +22,11 @@ use Rattle.proxy_core.specs.Histories.{IsGoodHistory}
 -- over a line that refuses loops a request whose Via names the proxy waits for no answer
 abbrev pub LoopedRequestWaitsForNobody : Type 0
 LoopedRequestWaitsForNobody =
-    (table : Table) (start : StoreAtStart) (first now id : ℕ) (line : RequestRoute) (leader : ℕ)
+    (table : Table) (start : StoreAtStart) (first now id : ℕ) (line : RouteOverLine) (leader : ℕ)
     (asked : Asked)
     (item : Item) (past : List Item) → IsGoodHistory table start first (item ∷ past)
     → item.event ≡ Arrive now id asked → verdict_of_asked table asked ≡ Allowed line
-    → came_back table line asked ≡ true → item.outcome ≡ Waits leader → ⊥
+    → is_refused_as_loop table line asked ≡ true → item.outcome ≡ Waits leader → ⊥
 
 -- whatever goes forward ends with the proxy's own Via, by which it is named once more
 abbrev pub EachForwardAddsOneVia : Type 0

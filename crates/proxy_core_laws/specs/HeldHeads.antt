@@ -2,15 +2,16 @@
 --
 -- StoredHeadSizeIsBounded: a head of so many lines and bytes
 -- StoredHeadIsBounded, FreshenedHeadIsBounded, HeldHeadIsBounded: whatever is held has one
--- HeadWithRoomIsWithinReaderLimits, HeadWithRoomAs304IsWithinReaderLimits: what leaves room is within the limits of a
+-- HeadWithRoomIsWithinReaderLimits, HeadWithRoomSentAs304IsWithinReaderLimits: what leaves room is within the limits of
+-- a
 -- reader, as
 -- it is sent
 -- BytesAreReadBackAsOneResponse: a reply is one response, with no premise on its head
--- FreshenedHeadLeavesRoom, HeldHeadLeavesRoom, HeadWithRoomIsSentAsOneResponse: so is what was freshened
+-- FreshenedHeadLeavesRoom, HeldHeadLeavesRoomOrIsAsStored, HeadWithRoomIsSentAsOneResponse: so is what was freshened
 use Rattle.std.specs.List.{AllByRecursion}
 use Rattle.std.specs.Prelude.{◌≡◌, ◌⊎◌, ℕ, suc, ◌+◌, ◌*◌, ◌≤◌, ◌<◌, ◌^◌, ◌++◌, ℤ, pos, negsuc, Bool, true, List, ◌∷◌}
 use Rattle.std.specs.Prelude.{length, IfSome, Some, None}
-use Rattle.hx_fields.specs.declared.limits.TheConstants.{END_OF_TIME}
+use Rattle.hx_fields.specs.declared.limits.TheConstants.{START_OF_YEAR_10000}
 use Rattle.hx_allow.specs.TableLines.{Table}
 use Rattle.hx_framing.specs.declared.messages.Response.{Response}
 use Rattle.hx_framing.specs.HeadEnd.{most_field_lines, most_head_bytes}
@@ -22,7 +23,7 @@ use Rattle.hx_hop.specs.declared.request_view.Asked.{Asked}
 use Rattle.hx_policy.specs.declared.words.Policy.{Policy}
 use Rattle.hx_status.specs.declared.status.Status.{Status}
 use Rattle.hx_store.specs.Serials.{serial_is_in}
-use Rattle.hx_store.specs.Shelf.{find_entry}
+use Rattle.hx_store.specs.Shelf.{find_entry_of_serial}
 use Rattle.hx_store.specs.Stored.{Stored}
 use Rattle.hx_validate.specs.Room.{head_leaves_room}
 use Rattle.hx_hop_laws.specs.OneResponse.{ResponseIsWithinReaderLimits}
@@ -30,15 +31,15 @@ use Rattle.proxy_core.specs.declared.event.Event.TheVariants.{Answer}
 use Rattle.proxy_core.specs.declared.open.exchange.Exchange.{Exchange}
 use Rattle.proxy_core.specs.declared.outcome.Outcome.TheVariants.{Reply as ReplyData}
 use Rattle.proxy_core.specs.declared.outcome.Reply.{Reply}
-use Rattle.proxy_core.specs.Histories.{IsGoodHistory, held_entries, held_entry, held_serials, open_exchanges}
+use Rattle.proxy_core.specs.Histories.{IsGoodHistory, held_entries, entry_held_after, held_serials, open_exchanges}
 use Rattle.proxy_core.specs.Outcomes.{find_exchange, exchange_id_of_event}
 use Rattle.proxy_core.specs.ReadAnswers.{ResponseWasReadFromAStream, EventIsReadFromAStream}
-use Rattle.proxy_core.specs.State.{stored_response_as_used, serial_used_by_outcome}
+use Rattle.proxy_core.specs.State.{stored_response_freshened_by_event, serial_used_by_outcome}
 use Rattle.proxy_core.specs.Starts.{StoreAtStart, HoldsForEachResponseAtStart}
 use Rattle.proxy_core.specs.Storing.{stored_response_made}
 use Rattle.proxy_core.specs.Traces.{Item}
-use Rattle.proxy_core.specs.Validating.{freshened_may_be_kept, freshened_by_304, stored_response_validated}
-use Rattle.proxy_core_laws.specs.SentMessages.{CanBeSent, MessagesOfTraceWereRead, event_is_to_head}
+use Rattle.proxy_core.specs.Validating.{freshened_may_be_kept, freshened_by_304, stored_response_validated_by_304}
+use Rattle.proxy_core_laws.specs.SentMessages.{StartResponseCanBeSent, MessagesOfTraceWereRead, event_is_to_head}
 use Rattle.hx_allow.specs.Tables.{TableWasRead}
 use Rattle.proxy_core_laws.specs.StoredReplies.{stored_sent_as_304, stored_sent_whole}
 
@@ -53,7 +54,7 @@ abbrev pub SecondsAreInRange : ℤ → Type 0
 SecondsAreInRange (pos n) = n ≤ 2147483648
 SecondsAreInRange (negsuc n) = suc n ≤ 2147483648
 
-pub record StatusIsInRange (shown : Status) : Type 0 where
+pub record CacheStatusIsInRange (shown : Status) : Type 0 where
   pub came : IfSome shown.fwd_status (λ status. status ≤ 999)
   pub left : IfSome shown.ttl SecondsAreInRange
   pub is_held : shown.not_stored ≡ None
@@ -64,7 +65,7 @@ pub record StatusIsInRange (shown : Status) : Type 0 where
 abbrev pub StoredHeadIsBounded : Type 0
 StoredHeadIsBounded = (max_body serial now : ℕ) (to_head ended : Bool) (bytes rest : List ℕ) (x : Exchange)
     (r : Response)
-    → ReadsAs max_body to_head ended bytes (Spelled r rest) → now < END_OF_TIME → StoredHeadSizeIsBounded
+    → ReadsAs max_body to_head ended bytes (Spelled r rest) → now < START_OF_YEAR_10000 → StoredHeadSizeIsBounded
     (stored_response_made serial x r now)
 
 -- an answer of at most 95 lines, and of so many bytes that a Date has room beside them, is stored with room
@@ -86,33 +87,33 @@ FreshenedHeadLeavesRoom =
     (past : List Item)
     → IsGoodHistory table start first (item ∷ past) → item.event ≡ Answer now id r
     → find_exchange id (open_exchanges table start past) ≡ Some x
-    → stored_response_validated (held_entries table start past) x r now ≡ Some e → serial_is_in e.serial
+    → stored_response_validated_by_304 (held_entries table start past) x r now ≡ Some e → serial_is_in e.serial
     (held_serials table start (item ∷ past))
     ≡ true
     → head_leaves_room (freshened_by_304 x r now e).fields ≡ true
 
 -- it is what was made of an answer that was read, as it was stored, but for the times, of which a purge may end the
 -- lifetime
-pub record ResponseIsAsStored (serial : ℕ) (e : Stored) : Type 0 where
+pub record HeldResponseIsAsStored (serial : ℕ) (e : Stored) : Type 0 where
   pub exchange : Exchange
   pub response : Response
   pub now : ℕ
   pub was_read : ResponseWasReadFromAStream response
-  pub early : now < END_OF_TIME
+  pub early : now < START_OF_YEAR_10000
   pub is : e ≡ record (stored_response_made serial exchange response now) { times = e.times }
 
 -- it leaves room, or is as it was stored
 abbrev pub LeavesRoomOrIsAsStored : ℕ → Stored → Type 0
-LeavesRoomOrIsAsStored serial e = (head_leaves_room e.fields ≡ true) ⊎ ResponseIsAsStored serial e
+LeavesRoomOrIsAsStored serial e = (head_leaves_room e.fields ≡ true) ⊎ HeldResponseIsAsStored serial e
 
 -- so whatever is held at any moment of a good history whose answers were read leaves room, or is as it was stored,
 -- where that is so of each that was held at first
-abbrev pub HeldHeadLeavesRoom : Type 0
-HeldHeadLeavesRoom = (table : Table) (start : StoreAtStart) (first : ℕ) (trace : List Item)
+abbrev pub HeldHeadLeavesRoomOrIsAsStored : Type 0
+HeldHeadLeavesRoomOrIsAsStored = (table : Table) (start : StoreAtStart) (first : ℕ) (trace : List Item)
     → IsGoodHistory table start first trace
     → HoldsForEachResponseAtStart LeavesRoomOrIsAsStored start
     → AllByRecursion (λ item. EventIsReadFromAStream item.event) trace → (serial : ℕ) (e : Stored)
-    → serial_is_in serial (held_serials table start trace) ≡ true → held_entry table start trace serial ≡ Some e
+    → serial_is_in serial (held_serials table start trace) ≡ true → entry_held_after table start trace serial ≡ Some e
     → LeavesRoomOrIsAsStored serial e
 
 -- and has such a head
@@ -121,7 +122,7 @@ HeldHeadIsBounded = (table : Table) (start : StoreAtStart) (first : ℕ) (trace 
     → IsGoodHistory table start first trace
     → HoldsForEachResponseAtStart LeavesRoomOrIsAsStored start
     → AllByRecursion (λ item. EventIsReadFromAStream item.event) trace → (serial : ℕ) (e : Stored)
-    → serial_is_in serial (held_serials table start trace) ≡ true → held_entry table start trace serial ≡ Some e
+    → serial_is_in serial (held_serials table start trace) ≡ true → entry_held_after table start trace serial ≡ Some e
     → StoredHeadSizeIsBounded e
 
 -- What leaves room is within the limits of a reader as it is sent, with whatever the proxy adds. The name of a table
@@ -130,15 +131,15 @@ abbrev pub HeadWithRoomIsWithinReaderLimits : Type 0
 HeadWithRoomIsWithinReaderLimits =
     (policy : Policy) (most now : ℕ) (name : List ℕ) (e : Stored) (shown : Status) (asked : Asked)
     → head_leaves_room e.fields ≡ true → length name ≤ 32
-    → StatusIsInRange shown → e.status ≤ 599 → length e.content < 2 ^ 64
+    → CacheStatusIsInRange shown → e.status ≤ 599 → length e.content < 2 ^ 64
     → length (stored_sent_whole policy name e now shown asked).content ≤ most
     → ResponseIsWithinReaderLimits most (stored_sent_whole policy name e now shown asked)
 
-abbrev pub HeadWithRoomAs304IsWithinReaderLimits : Type 0
-HeadWithRoomAs304IsWithinReaderLimits =
+abbrev pub HeadWithRoomSentAs304IsWithinReaderLimits : Type 0
+HeadWithRoomSentAs304IsWithinReaderLimits =
     (most now : ℕ) (name : List ℕ) (e : Stored) (shown : Status) (asked : Asked) → head_leaves_room e.fields ≡ true
     → length name ≤ 32
-    → StatusIsInRange shown → ResponseIsWithinReaderLimits most (stored_sent_as_304 name e now shown asked)
+    → CacheStatusIsInRange shown → ResponseIsWithinReaderLimits most (stored_sent_as_304 name e now shown asked)
 
 -- The bytes are the text of a response that is read back as it was sent, and what stands behind it is left, by each
 -- reader that takes so much content: nothing is asked of its head.
@@ -156,11 +157,11 @@ HeadWithRoomIsSentAsOneResponse =
     (table : Table) (start : StoreAtStart) (first serial : ℕ) (e : Stored) (item : Item) (past : List Item)
     (reply : Reply)
     → TableWasRead table
-    → IsGoodHistory table start first (item ∷ past) → HoldsForEachResponseAtStart CanBeSent start
+    → IsGoodHistory table start first (item ∷ past) → HoldsForEachResponseAtStart StartResponseCanBeSent start
     → MessagesOfTraceWereRead (item ∷ past) → serial_used_by_outcome item.outcome
     ≡ Some serial → item.outcome ≡ ReplyData reply
-    → find_entry serial (held_entries table start past) ≡ Some e
-    → head_leaves_room (stored_response_as_used (find_exchange (exchange_id_of_event item.event)
+    → find_entry_of_serial serial (held_entries table start past) ≡ Some e
+    → head_leaves_room (stored_response_freshened_by_event (find_exchange (exchange_id_of_event item.event)
     (open_exchanges table start past)) item.event e).fields
     ≡ true
     → BytesAreReadBackAsOneResponse (event_is_to_head (find_exchange (exchange_id_of_event item.event)

@@ -2,7 +2,7 @@
 -- operator may purge, and stays between the origin and the proxy.
 --
 -- IsResponseWithoutTags: a response that names none
--- NoTagIsSentOutOfTheStore, NoTagIsPassedOn: none comes to a client
+-- NoHiddenTagIsSentOutOfTheStore, NoHiddenTagIsPassedOn: none comes to a client
 use Rattle.std.specs.Prelude.{◌≡◌, ℕ, Bool, true, false, List, ◌∷◌, Option, Some, codes}
 use Rattle.hx_fields.specs.FieldLines.{has_field}
 use Rattle.hx_framing.specs.declared.messages.Response.{Response}
@@ -10,7 +10,7 @@ use Rattle.hx_framing.specs.WrittenResponse.{SentResponse, sent_response_text}
 use Rattle.hx_policy.specs.declared.words.Policy.{Policy}
 use Rattle.hx_allow.specs.Matching.{policy_of}
 use Rattle.hx_allow.specs.TableLines.{Table}
-use Rattle.hx_allow.specs.declared.verdicts.RequestRoute.{RequestRoute}
+use Rattle.hx_allow.specs.declared.verdicts.RouteOverLine.{RouteOverLine}
 use Rattle.hx_storable.specs.declared.rule.StoreRule.{StoreRule}
 use Rattle.proxy_core.specs.declared.open.exchange.Exchange.{Exchange}
 use Rattle.proxy_core.specs.declared.outcome.Outcome.TheVariants.{Reply as ReplyData}
@@ -33,8 +33,9 @@ pub record IsResponseWithoutTags (bytes : List ℕ) : Type 0 where
 
 -- Over a line that hides tags whoever is sent a stored response is sent no Cache-Tag: at a hit, in part or as a 304,
 -- stale, behind a 304 and after waiting, whatever was held at first, and whatever line it was stored over.
-abbrev pub NoTagIsSentOutOfTheStore : Type 0
-NoTagIsSentOutOfTheStore = (table : Table) (start : StoreAtStart) (first s : ℕ) (line : RequestRoute) (item : Item)
+abbrev pub NoHiddenTagIsSentOutOfTheStore : Type 0
+NoHiddenTagIsSentOutOfTheStore = (table : Table) (start : StoreAtStart) (first s : ℕ) (line : RouteOverLine)
+    (item : Item)
     (past : List Item) (reply : Reply)
     → IsGoodHistory table start first (item ∷ past)
     → EventGoesOverLine table (find_exchange (exchange_id_of_event item.event)
@@ -44,7 +45,7 @@ NoTagIsSentOutOfTheStore = (table : Table) (start : StoreAtStart) (first s : ℕ
     → IsResponseWithoutTags reply.bytes
 
 -- Nor has one an answer that is passed on, whole, in part, or as a 304 or a 416 in its place, stored or not.
-abbrev pub NoTagIsPassedOn : Type 0
-NoTagIsPassedOn = (policy : Policy) (name : List ℕ) (x : Exchange) (r : Response) (now : ℕ) (stored : Bool)
+abbrev pub NoHiddenTagIsPassedOn : Type 0
+NoHiddenTagIsPassedOn = (policy : Policy) (name : List ℕ) (x : Exchange) (r : Response) (now : ℕ) (stored : Bool)
     (rule : Option StoreRule) → policy.hides_tags ≡ true
     → has_field (passed_answer_in_form_as_sent policy name x r now stored rule).fields (codes "Cache-Tag") ≡ false

@@ -15,11 +15,11 @@ use Rattle.proxy_core.specs.Restarts.{store_after_trace}
 use Rattle.proxy_core.specs.Starts.{StoreAtStart, HoldsForEachResponseAtStart}
 use Rattle.proxy_core.specs.Traces.{Item}
 use Rattle.proxy_core_laws.specs.HeldHeads.{LeavesRoomOrIsAsStored}
-use Rattle.proxy_core_laws.specs.SentMessages.{CanBeSent}
+use Rattle.proxy_core_laws.specs.SentMessages.{StartResponseCanBeSent}
 
 -- it can be sent as one response, its content is in memory, and its head leaves room or is as it was stored
 pub record ResponseAtStartIsSound (serial : ℕ) (e : Stored) : Type 0 where
-  pub can_be_sent : CanBeSent serial e
+  pub can_be_sent : StartResponseCanBeSent serial e
   pub room : LeavesRoomOrIsAsStored serial e
 
 -- ---- the statement

@@ -3,7 +3,7 @@
 use Rattle.std.specs.Prelude.{ℕ, ◌+◌, ◌<◌, ◌^◌, ◌++◌, Bool, List, [], ◌∷◌, length, codes, Option, None, Some, cond}
 use Rattle.std.specs.Prelude.{slice_range}
 use Rattle.httparse.specs.Grammar.{IsToken}
-use Rattle.hx_fields.specs.declared.limits.TheConstants.{END_OF_TIME}
+use Rattle.hx_fields.specs.declared.limits.TheConstants.{START_OF_YEAR_10000}
 use Rattle.hx_fields.specs.Line.{Field}
 use Rattle.hx_framing.specs.declared.messages.Response.{Response}
 use Rattle.hx_framing.specs.Reading.{Spelled}
@@ -25,7 +25,7 @@ use Rattle.proxy_core.specs.Replies.{content_unless_head, is_head, line, fields_
 use Rattle.proxy_core.specs.Replies.{refusal_reply_text, fields_of_purge, purge_reply_text}
 use Rattle.proxy_core.specs.Replies.{cache_status_of_passed_answer, client_wants_304_for_answer, fields_of_304_sent}
 use Rattle.proxy_core.specs.Replies.{fields_in_place_of_answer, fields_of_answer_416, fields_of_partial_answer}
-use Rattle.proxy_core.specs.Replies.{range_of_answer, fields_without_hidden_tags}
+use Rattle.proxy_core.specs.Replies.{part_of_answer_to_send, fields_without_hidden_tags}
 
 -- an answer as it is passed on, to a HEAD or not: its lines, without tags where those are hidden, and these behind them
 abbrev pub answer_passed_on : Bool → Bool → Response → ℕ → List Field → Bool → SentResponse
@@ -80,7 +80,7 @@ abbrev pub passed_answer_in_form_as_sent : Policy → List ℕ → Exchange → 
     → SentResponse
 passed_answer_in_form_as_sent policy name x r now stored rule =
     cond (client_wants_304_for_answer policy x r now) (not_modified_answer_as_sent policy name x r now stored rule)
-    (partial_answer_as_sent policy name x r now stored rule (range_of_answer policy x r now))
+    (partial_answer_as_sent policy name x r now stored rule (part_of_answer_to_send policy x r now))
 
 -- the proxy's own answer
 abbrev pub proxys_refusal_as_sent : ℕ → Cause → Bool → Bool → SentResponse
@@ -110,7 +110,7 @@ abbrev pub PassedAnswerIsOneResponse : Type 0
 PassedAnswerIsOneResponse =
     (max_body most now : ℕ) (to_head ended stored : Bool) (bytes rest name : List ℕ) (policy : Policy)
     (rule : Option StoreRule) (x : Exchange) (r : Response)
-    → ReadsAs max_body to_head ended bytes (Spelled r rest) → now < END_OF_TIME → IsToken name → most < 2 ^ 64
+    → ReadsAs max_body to_head ended bytes (Spelled r rest) → now < START_OF_YEAR_10000 → IsToken name → most < 2 ^ 64
     → ResponseIsWithinReaderLimits most (passed_answer_in_form_as_sent policy name x r now stored rule)
     → (over : Bool) (behind : List ℕ)
     → ReadsAs most (is_head x.asked) over (passed_answer_text policy name x r now stored rule ++ behind)
@@ -121,7 +121,7 @@ PassedAnswerIsOneResponse =
 abbrev pub ProxysAnswerIsOneResponse : Type 0
 ProxysAnswerIsOneResponse =
     (most now : ℕ) (cause : Cause) (close head : Bool)
-    → now < END_OF_TIME → most < 2 ^ 64 → length (refusal_text cause) < 2 ^ 64
+    → now < START_OF_YEAR_10000 → most < 2 ^ 64 → length (refusal_text cause) < 2 ^ 64
     → ResponseIsWithinReaderLimits most (proxys_refusal_as_sent now cause close head)
     → (over : Bool) (behind : List ℕ)
     → ReadsAs most head over (refusal_reply_text (date_text_of now) cause close head ++ behind)
@@ -131,7 +131,7 @@ ProxysAnswerIsOneResponse =
 abbrev pub PurgeAnswerIsOneResponse : Type 0
 PurgeAnswerIsOneResponse =
     (most now count : ℕ) (close head : Bool)
-    → now < END_OF_TIME → ResponseIsWithinReaderLimits most (purge_reply_as_sent now count close)
+    → now < START_OF_YEAR_10000 → ResponseIsWithinReaderLimits most (purge_reply_as_sent now count close)
     → (over : Bool) (behind : List ℕ)
     → ReadsAs most head over (purge_reply_text (date_text_of now) count close ++ behind)
     (Spelled (response_as_read_back head (purge_reply_as_sent now count close)) behind)

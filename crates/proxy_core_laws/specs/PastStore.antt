@@ -10,7 +10,7 @@ use Rattle.hx_policy.specs.declared.words.Policy.{Policy}
 use Rattle.hx_allow.specs.Cookies.{has_cookie_among}
 use Rattle.hx_allow.specs.Matching.{session_cookies_of}
 use Rattle.hx_allow.specs.TableLines.{Table}
-use Rattle.hx_allow.specs.declared.verdicts.RequestRoute.{RequestRoute}
+use Rattle.hx_allow.specs.declared.verdicts.RouteOverLine.{RouteOverLine}
 use Rattle.hx_store.specs.Stored.{Stored}
 use Rattle.hx_storable.specs.declared.rule.StoreRule.{StoreRule}
 use Rattle.hx_status.specs.declared.status.Detail.TheVariants.{SessionCookie}
@@ -54,7 +54,7 @@ pub record OutcomeBypassesTheStore (outcome : Outcome) : Type 0 where
 -- Over a line that names cookies a request that has one of them is sent no stored response, its answer isn't stored,
 -- and it waits for no other: from its arrival to its end.
 abbrev pub NamedCookieBypassesTheStore : Type 0
-NamedCookieBypassesTheStore = (table : Table) (start : StoreAtStart) (first : ℕ) (line : RequestRoute) (asked : Asked)
+NamedCookieBypassesTheStore = (table : Table) (start : StoreAtStart) (first : ℕ) (line : RouteOverLine) (asked : Asked)
     (item : Item) (past : List Item) → IsGoodHistory table start first (item ∷ past) →
     EventGoesOverLine table (find_exchange (exchange_id_of_event item.event) (open_exchanges table start past))
     item.event line →
@@ -66,7 +66,7 @@ NamedCookieBypassesTheStore = (table : Table) (start : StoreAtStart) (first : �
 -- nor does any other wait for it, whatever that could be sent
 abbrev pub BypassingRequestLeadsNobody : Type 0
 BypassingRequestLeadsNobody =
-    (table : Table) (held : List Stored) (now id : ℕ) (asked other : Asked) (line : RequestRoute)
+    (table : Table) (held : List Stored) (now id : ℕ) (asked other : Asked) (line : RouteOverLine)
     (policy : Policy) (awaited : Awaited) → line.past_store ≡ true →
     is_leader_for_request policy awaited other (forwarded_exchange table held now id asked line) ≡ false
 

@@ -12,13 +12,13 @@ use Rattle.hx_hop.specs.Answering.{answered_of}
 use Rattle.hx_policy.specs.declared.words.Policy.{Policy}
 use Rattle.hx_allow.specs.Matching.{policy_of}
 use Rattle.hx_allow.specs.TableLines.{Table}
-use Rattle.hx_allow.specs.declared.verdicts.RequestRoute.{RequestRoute}
+use Rattle.hx_allow.specs.declared.verdicts.RouteOverLine.{RouteOverLine}
 use Rattle.hx_storable.specs.declared.rule.StoreRule.{StoreRule}
 use Rattle.hx_store.specs.Stored.{Stored}
 use Rattle.proxy_core.specs.declared.open.exchange.Exchange.{Exchange}
 use Rattle.proxy_core.specs.declared.outcome.Outcome.TheVariants.{Reply as ReplyData}
 use Rattle.proxy_core.specs.declared.outcome.Reply.{Reply}
-use Rattle.proxy_core.specs.Histories.{IsGoodHistory, held_entry, open_exchanges}
+use Rattle.proxy_core.specs.Histories.{IsGoodHistory, entry_held_after, open_exchanges}
 use Rattle.proxy_core.specs.Outcomes.{find_exchange, exchange_id_of_event}
 use Rattle.proxy_core.specs.Starts.{StoreAtStart}
 use Rattle.proxy_core.specs.State.{serial_used_by_outcome}
@@ -38,12 +38,12 @@ pub record IsTextWithoutSetCookie (bytes : List ℕ) : Type 0 where
 -- Over a line that removes cookies whoever is sent a stored response is sent no Set-Cookie: at a hit, stale, behind a
 -- 304 and after waiting, whatever was held at first, and whatever line it was stored over.
 abbrev pub NoCookieIsSentOutOfTheStore : Type 0
-NoCookieIsSentOutOfTheStore = (table : Table) (start : StoreAtStart) (first s : ℕ) (line : RequestRoute) (item : Item)
+NoCookieIsSentOutOfTheStore = (table : Table) (start : StoreAtStart) (first s : ℕ) (line : RouteOverLine) (item : Item)
     (past : List Item) (reply : Reply)
     → IsGoodHistory table start first (item ∷ past)
     → EventGoesOverLine table (find_exchange (exchange_id_of_event item.event)
     (open_exchanges table start past)) item.event line
-    → (policy_of table.lines line).removes_cookies ≡ true
+    → (policy_of table.lines line).removes_set_cookie ≡ true
     → serial_used_by_outcome item.outcome ≡ Some s → item.outcome ≡ ReplyData reply
     → IsTextWithoutSetCookie reply.bytes
 
@@ -51,8 +51,8 @@ NoCookieIsSentOutOfTheStore = (table : Table) (start : StoreAtStart) (first s : 
 abbrev pub NoCookieIsLeftInTheStore : Type 0
 NoCookieIsLeftInTheStore = (table : Table) (start : StoreAtStart) (trace : List Item) (s : ℕ) (x : Exchange)
     (e : Stored)
-    → latest_storing_exchange_of table start trace s ≡ Some x → (policy_of table.lines x.line).removes_cookies ≡ true
-    → held_entry table start trace s ≡ Some e
+    → latest_storing_exchange_of table start trace s ≡ Some x → (policy_of table.lines x.line).removes_set_cookie ≡ true
+    → entry_held_after table start trace s ≡ Some e
     → has_field e.fields (codes "Set-Cookie") ≡ false
 
 -- An answer that is passed on, whole, in part, or as a 304 or a 416 in its place, has the cookies that came, whatever

@@ -27,7 +27,7 @@ use Rattle.hx_hop.specs.Forwarding.{forwarded_of}
 use Rattle.hx_allow.specs.TableLines.{Table}
 use Rattle.hx_allow.specs.Tables.{TableWasRead}
 use Rattle.hx_store.specs.Stored.{Stored}
-use Rattle.hx_validate.specs.Validators.{conditions_of}
+use Rattle.hx_validate.specs.Validators.{validating_conditions_of}
 use Rattle.hx_reuse.specs.FilledRanges.{request_without_range}
 use Rattle.hx_hop_laws.specs.OneMessage.{ConditionsAreFieldValues, RequestIsWithinLimits}
 use Rattle.hx_hop_laws.specs.OneResponse.{ResponseIsWithinReaderLimits}
@@ -36,7 +36,7 @@ use Rattle.proxy_core.specs.declared.event.Event.{Event}
 use Rattle.proxy_core.specs.declared.event.Event.TheVariants.{Arrive, Answer, Fail, Wake, Abandon, Overdue}
 use Rattle.proxy_core.specs.declared.outcome.Outcome.{Outcome}
 use Rattle.proxy_core.specs.declared.outcome.Outcome.TheVariants.{Reply, Forward, Waits, Ended, WaitsNoMore}
-use Rattle.proxy_core.specs.Histories.{IsGoodHistory, held_entry, open_exchanges}
+use Rattle.proxy_core.specs.Histories.{IsGoodHistory, entry_held_after, open_exchanges}
 use Rattle.proxy_core.specs.Outcomes.{find_exchange, exchange_id_of_event}
 use Rattle.proxy_core.specs.ReadAnswers.{ResponseWasReadFromAStream, EventIsReadFromAStream}
 use Rattle.proxy_core.specs.Replies.{is_head}
@@ -158,8 +158,8 @@ abbrev pub ConditionsOfHistoryAreFieldValues : Type 0
 ConditionsOfHistoryAreFieldValues = (table : Table) (start : StoreAtStart) (first : ℕ) (trace : List Item)
     → IsGoodHistory table start first trace → HoldsForEachResponseAtStart (λ serial e. StoredResponseIsSendable e) start
     → AllByRecursion (λ item. EventIsReadFromAStream item.event) trace → (serial : ℕ) (e : Stored)
-    → held_entry table start trace serial ≡ Some e
-    → ConditionsAreFieldValues (conditions_of e.fields)
+    → entry_held_after table start trace serial ≡ Some e
+    → ConditionsAreFieldValues (validating_conditions_of e.fields)
 
 -- and its content is no longer than the table says
 abbrev pub HeldContentIsAtMostMaxStored : Type 0
@@ -167,7 +167,7 @@ HeldContentIsAtMostMaxStored = (table : Table) (start : StoreAtStart) (first : �
     → IsGoodHistory table start first trace
     → HoldsForEachResponseAtStart (λ serial e. length e.content ≤ table.max_stored) start
     → AllByRecursion (λ item. EventIsReadFromAStream item.event) trace → (serial : ℕ) (e : Stored)
-    → held_entry table start trace serial ≡ Some e
+    → entry_held_after table start trace serial ≡ Some e
     → length e.content ≤ table.max_stored
 
 -- the request of each open exchange was read, where each that arrived was
@@ -179,17 +179,17 @@ OpenRequestsWereRead =
     → RequestWasRead x.asked
 
 -- what is asked of a response that is held at first: it can be sent as one, and its content is in memory
-pub record CanBeSent (serial : ℕ) (e : Stored) : Type 0 where
+pub record StartResponseCanBeSent (serial : ℕ) (e : Stored) : Type 0 where
   pub sendable : StoredResponseIsSendable e
   pub fits : length e.content < 2 ^ 64
 
 -- In a good history over a table that was read, of requests and answers that were read, each step sends one message or
 -- none: a request that goes forward, at its arrival, when it is woken and a second time, and whatever a client gets, an
 -- answer of the origin, a stored response and the proxy's own.
-abbrev pub EachStepSendsOneMessage : Type 0
-EachStepSendsOneMessage = (table : Table) (start : StoreAtStart) (first : ℕ) (item : Item) (past : List Item)
+abbrev pub EachStepSendsAtMostOneMessage : Type 0
+EachStepSendsAtMostOneMessage = (table : Table) (start : StoreAtStart) (first : ℕ) (item : Item) (past : List Item)
     → TableWasRead table
-    → IsGoodHistory table start first (item ∷ past) → HoldsForEachResponseAtStart CanBeSent start
+    → IsGoodHistory table start first (item ∷ past) → HoldsForEachResponseAtStart StartResponseCanBeSent start
     → MessagesOfTraceWereRead (item ∷ past)
     → OutcomeIsOneMessage table.name (event_is_to_head
     (find_exchange (exchange_id_of_event item.event) (open_exchanges table start past)) item.event) item.outcome

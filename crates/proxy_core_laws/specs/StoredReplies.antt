@@ -7,7 +7,7 @@
 use Rattle.std.specs.List.{AllByRecursion}
 use Rattle.std.specs.Prelude.{◌≡◌, ℕ, ◌<◌, ◌≤◌, ◌^◌, ◌++◌, Bool, true, false, List, [], ◌∷◌, length, codes, decimal}
 use Rattle.std.specs.Prelude.{All, None, Some}
-use Rattle.hx_fields.specs.declared.limits.TheConstants.{END_OF_TIME}
+use Rattle.hx_fields.specs.declared.limits.TheConstants.{START_OF_YEAR_10000}
 use Rattle.hx_fields.specs.Line.{Field}
 use Rattle.httparse.specs.Grammar.{IsToken}
 use Rattle.hx_fields.specs.FieldLines.{has_field}
@@ -29,13 +29,13 @@ use Rattle.hx_validate.specs.Answering.{freshened_of}
 use Rattle.hx_validate.specs.NotModified.{fields_of_304}
 use Rattle.hx_hop_laws.specs.OneResponse.{ResponseIsWithinReaderLimits}
 use Rattle.proxy_core.specs.declared.open.exchange.Exchange.{Exchange}
-use Rattle.proxy_core.specs.Histories.{IsGoodHistory, held_entry}
+use Rattle.proxy_core.specs.Histories.{IsGoodHistory, entry_held_after}
 use Rattle.proxy_core.specs.ReadAnswers.{EventIsReadFromAStream}
 use Rattle.hx_policy.specs.declared.words.Policy.{Policy}
 use Rattle.proxy_core.specs.Replies.{content_unless_head, is_head, length_unless_forbidden, line}
 use Rattle.proxy_core.specs.Replies.{fields_without_hidden_tags}
 use Rattle.proxy_core.specs.Storing.{stored_response_made}
-use Rattle.proxy_core.specs.Validating.{stored_without_cookies, without_cookies}
+use Rattle.proxy_core.specs.Validating.{stored_without_cookies, without_set_cookie_if}
 use Rattle.proxy_core.specs.Traces.{Item}
 use Rattle.proxy_core.specs.Starts.{StoreAtStart, HoldsForEachResponseAtStart}
 
@@ -56,15 +56,15 @@ stored_fields_as_sent name fields e now shown =
     ++ line (codes "Cache-Status") (member_text name shown) ∷ []
 
 -- those that a line lets be seen of these: without cookies where it removes them, and without tags where it hides them
-abbrev pub fields_shown_by_line : Policy → List Field → List Field
-fields_shown_by_line policy fields =
-    fields_without_hidden_tags policy.hides_tags (without_cookies policy.removes_cookies fields)
+abbrev pub fields_shown_under_policy : Policy → List Field → List Field
+fields_shown_under_policy policy fields =
+    fields_without_hidden_tags policy.hides_tags (without_set_cookie_if policy.removes_set_cookie fields)
 
 -- it as it is sent whole (`whole_stored_text` of the core) over a line, and as a 304 (`not_modified_text`)
 abbrev pub stored_sent_whole : Policy → List ℕ → Stored → ℕ → Status → Asked → SentResponse
 stored_sent_whole policy name e now shown asked = record {
   status = e.status;
-  fields = stored_fields_as_sent name (fields_shown_by_line policy e.fields) e now shown;
+  fields = stored_fields_as_sent name (fields_shown_under_policy policy e.fields) e now shown;
   shown = length_unless_forbidden e.status (Some (length e.content));
   close = asked.close;
   content = content_unless_head (is_head asked) e.content;
@@ -84,14 +84,14 @@ stored_sent_as_304 name e now shown asked = record {
 abbrev pub StoredAnswerIsSendable : Type 0
 StoredAnswerIsSendable = (max_body serial now : ℕ) (to_head ended : Bool) (bytes rest : List ℕ) (x : Exchange)
     (r : Response)
-    → ReadsAs max_body to_head ended bytes (Spelled r rest) → now < END_OF_TIME → StoredResponseIsSendable
+    → ReadsAs max_body to_head ended bytes (Spelled r rest) → now < START_OF_YEAR_10000 → StoredResponseIsSendable
     (stored_response_made serial x r now)
 
 abbrev pub FreshenedResponseIsSendable : Type 0
 FreshenedResponseIsSendable =
     (max_body now : ℕ) (to_head ended : Bool) (bytes rest : List ℕ) (e : Stored) (r : Response) (asked : Asked)
     (times : Times) (further : List (List ℕ)) (x : Exchange)
-    → StoredResponseIsSendable e → ReadsAs max_body to_head ended bytes (Spelled r rest) → now < END_OF_TIME
+    → StoredResponseIsSendable e → ReadsAs max_body to_head ended bytes (Spelled r rest) → now < START_OF_YEAR_10000
     → StoredResponseIsSendable (stored_without_cookies x (freshened_of further e (answered_of r now) asked times))
 
 -- at each moment of a good history whose answers were read (law `answers_have_a_final_status` of proxy_engine says that
@@ -102,7 +102,7 @@ HeldResponseIsSendable = (table : Table) (start : StoreAtStart) (first : ℕ) (t
     → IsGoodHistory table start first trace
     → HoldsForEachResponseAtStart (λ serial e. StoredResponseIsSendable e) start
     → AllByRecursion (λ item. EventIsReadFromAStream item.event) trace → (serial : ℕ) (e : Stored)
-    → held_entry table start trace serial ≡ Some e → StoredResponseIsSendable e
+    → entry_held_after table start trace serial ≡ Some e → StoredResponseIsSendable e
 
 abbrev pub StoredWholeIsSentAsOneResponse : Type 0
 StoredWholeIsSentAsOneResponse = (policy : Policy) (most now : ℕ) (name : List ℕ) (e : Stored) (shown : Status)

@@ -1,7 +1,7 @@
 -- What the names do that a line gives for Vary, over a whole history (RFC 9111, section 4.1).
 --
 -- latest_storing_exchange_of: the exchange whose answer a response is, or by whose 304 it was freshened last
--- SentResponseHasTheRequestsVaryValues, OpenExchangeHasTheNamesOfItsLine: the laws
+-- SentResponseHasTheRequestsVaryValues, OpenExchangeHasTheVaryNamesOfItsLine: the laws
 use Rattle.std.specs.Prelude.{◌≡◌, ℕ, ◌||◌, ◌&&◌, Bool, false, List, [], ◌∷◌, Option, Some, None, cond}
 use Rattle.std.specs.List.{Contains}
 use Rattle.hx_fields.specs.FieldLines.{combined_of}
@@ -19,34 +19,35 @@ use Rattle.proxy_core.specs.Outcomes.{find_exchange, exchange_id_of_event}
 use Rattle.proxy_core.specs.Starts.{StoreAtStart}
 use Rattle.proxy_core.specs.State.{serial_stored_by_outcome, serial_used_by_outcome}
 use Rattle.proxy_core.specs.Traces.{Item}
-use Rattle.proxy_core.specs.Histories.{held_entry, open_exchanges, IsGoodHistory}
-use Rattle.proxy_core.specs.Validating.{stored_response_is_answered}
+use Rattle.proxy_core.specs.Histories.{entry_held_after, open_exchanges, IsGoodHistory}
+use Rattle.proxy_core.specs.Validating.{stored_response_is_answered_by_304}
 use Rattle.proxy_core_laws.specs.PastStore.{request_of_event}
 
 abbrev pub stored_if_any_is_answered_by_304 : Exchange → Response → ℕ → Option Stored → Bool
 stored_if_any_is_answered_by_304 x r now None = false
-stored_if_any_is_answered_by_304 x r now (Some e) = stored_response_is_answered x r now e
+stored_if_any_is_answered_by_304 x r now (Some e) = stored_response_is_answered_by_304 x r now e
 
 -- an answer is stored as the response of this serial, or is the 304 that freshens it; else that is as it was
-abbrev pub storing_exchange_after_event : Option Exchange → Event → Outcome → Option Stored → Option Exchange → ℕ
+abbrev pub exchange_that_last_stored_or_freshened : Option Exchange → Event → Outcome → Option Stored → Option Exchange
+    → ℕ
     → Option Exchange
-storing_exchange_after_event (Some x) (Answer now id r) o e before s =
+exchange_that_last_stored_or_freshened (Some x) (Answer now id r) o e before s =
     cond (option_is_serial (serial_stored_by_outcome o) s
     || (option_is_serial (serial_used_by_outcome o) s && stored_if_any_is_answered_by_304 x r now e)) (Some x) before
-storing_exchange_after_event (Some x) (Arrive now id asked) o e before s = before
-storing_exchange_after_event (Some x) (Fail now id kind) o e before s = before
-storing_exchange_after_event (Some x) (Wake now id) o e before s = before
-storing_exchange_after_event (Some x) (Abandon id) o e before s = before
-storing_exchange_after_event (Some x) (Overdue id) o e before s = before
-storing_exchange_after_event None event o e before s = before
+exchange_that_last_stored_or_freshened (Some x) (Arrive now id asked) o e before s = before
+exchange_that_last_stored_or_freshened (Some x) (Fail now id kind) o e before s = before
+exchange_that_last_stored_or_freshened (Some x) (Wake now id) o e before s = before
+exchange_that_last_stored_or_freshened (Some x) (Abandon id) o e before s = before
+exchange_that_last_stored_or_freshened (Some x) (Overdue id) o e before s = before
+exchange_that_last_stored_or_freshened None event o e before s = before
 
 -- there is none for what was held at first
 abbrev pub latest_storing_exchange_of : Table → StoreAtStart → List Item → ℕ → Option Exchange
 latest_storing_exchange_of table start [] s = None
 latest_storing_exchange_of table start (item ∷ past) s =
-    storing_exchange_after_event
+    exchange_that_last_stored_or_freshened
     (find_exchange (exchange_id_of_event item.event) (open_exchanges table start past)) item.event
-    item.outcome (held_entry table start past s) (latest_storing_exchange_of table start past s) s
+    item.outcome (entry_held_after table start past s) (latest_storing_exchange_of table start past s) s
 
 -- ---- the statements
 
@@ -64,6 +65,7 @@ SentResponseHasTheRequestsVaryValues =
     combined_of x.asked.fields name ≡ combined_of asked.fields name
 
 -- an exchange has the names of its line from its arrival to its end
-abbrev pub OpenExchangeHasTheNamesOfItsLine : Type 0
-OpenExchangeHasTheNamesOfItsLine = (table : Table) (start : StoreAtStart) (id : ℕ) (trace : List Item) (x : Exchange) →
+abbrev pub OpenExchangeHasTheVaryNamesOfItsLine : Type 0
+OpenExchangeHasTheVaryNamesOfItsLine = (table : Table) (start : StoreAtStart) (id : ℕ) (trace : List Item)
+    (x : Exchange) →
     find_exchange id (open_exchanges table start trace) ≡ Some x → x.vary ≡ vary_names_of_line table.lines x.line.number

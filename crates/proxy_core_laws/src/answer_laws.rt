@@ -1,9 +1,10 @@
 //! Laws on what a client gets. Each function's contract is a law, and its body is empty.
-ghost use Rattle.proxy_core_laws.specs.ClientConditions.{OnlyMatchingConditionGetsA304, MetConditionGetsA304};
-ghost use Rattle.proxy_core_laws.specs.HeldHeads.{HeadWithRoomAs304IsWithinReaderLimits};
+ghost use Rattle.proxy_core_laws.specs.ClientConditions.{OnlyFailedConditionGetsA304, FailedConditionGetsA304};
+ghost use Rattle.proxy_core_laws.specs.HeldHeads.{HeadWithRoomSentAs304IsWithinReaderLimits};
 ghost use Rattle.proxy_core_laws.specs.HeldHeads.{HeadWithRoomIsWithinReaderLimits};
 ghost use Rattle.proxy_core_laws.specs.HeldHeads.{FreshenedHeadLeavesRoom};
-ghost use Rattle.proxy_core_laws.specs.HeldHeads.{HeldHeadIsBounded, HeldHeadLeavesRoom, FreshenedHeadIsBounded};
+ghost use Rattle.proxy_core_laws.specs.HeldHeads.{HeldHeadIsBounded, HeldHeadLeavesRoomOrIsAsStored};
+ghost use Rattle.proxy_core_laws.specs.HeldHeads.{FreshenedHeadIsBounded};
 ghost use Rattle.proxy_core_laws.specs.HeldHeads.{HeadWithRoomIsSentAsOneResponse};
 ghost use Rattle.proxy_core_laws.specs.HeldHeads.{StoredHeadIsBounded, StoredHeadLeavesRoom};
 ghost use Rattle.proxy_core_laws.specs.LeftStores.{HeldResponsesAreSoundForARestart};
@@ -17,8 +18,8 @@ ghost use Rattle.proxy_core_laws.specs.StoredReplies.{StoredAnswerIsSendable};
 /// A client's If-None-Match, or where that is absent its If-Modified-Since, gets a 304 from a stored response exactly
 /// where the standard says that the condition fails (RFC 9110, sections 13.1.2, 13.1.3 and 13.2.2).
 pub fn a_client_gets_its_304_where_it_may()
-    ensures every { MetConditionGetsA304 }
-    ensures only { OnlyMatchingConditionGetsA304 }
+    ensures every { FailedConditionGetsA304 }
+    ensures only { OnlyFailedConditionGetsA304 }
 {}
 
 /// What a client gets for an answer that is passed on, or by the proxy itself, is one response: read by a client that
@@ -46,7 +47,7 @@ pub fn a_held_head_has_a_bound()
     ensures stored { StoredHeadIsBounded }
     ensures kept { FreshenedHeadIsBounded }
     ensures freshened { FreshenedHeadLeavesRoom }
-    ensures room { HeldHeadLeavesRoom }
+    ensures room { HeldHeadLeavesRoomOrIsAsStored }
     ensures stored_with_room { StoredHeadLeavesRoom }
     ensures held { HeldHeadIsBounded }
 {}
@@ -54,7 +55,7 @@ pub fn a_held_head_has_a_bound()
 /// So it is sent within the limits of a reader, and read back as one response, with no premise on its head.
 pub fn a_head_with_room_is_sent_as_one_response()
     ensures whole { HeadWithRoomIsWithinReaderLimits }
-    ensures not_modified { HeadWithRoomAs304IsWithinReaderLimits }
+    ensures not_modified { HeadWithRoomSentAs304IsWithinReaderLimits }
     ensures sent { HeadWithRoomIsSentAsOneResponse }
 {}
 

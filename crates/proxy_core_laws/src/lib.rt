@@ -18,6 +18,8 @@ pub use crate::cookie_laws::{
     a_cookie_is_sent_only_to_its_requester, a_named_cookie_bypasses_the_store,
 };
 pub use crate::loop_laws::a_looped_request_is_recognized;
-pub use crate::message_laws::{a_core_sends_one_message_each_time, what_was_read_can_be_sent};
-pub use crate::tag_laws::no_cache_tag_is_sent_to_a_client;
+pub use crate::message_laws::{
+    a_core_sends_at_most_one_message_each_time, what_was_read_can_be_sent,
+};
+pub use crate::tag_laws::hidden_tags_are_sent_to_no_client;
 pub use crate::vary_laws::a_sent_response_has_the_requests_vary_values;

@@ -2,7 +2,7 @@
 ghost use Rattle.proxy_core_laws.specs.SentMessages.{ConditionsOfHistoryAreFieldValues, HeldContentIsAtMostMaxStored};
 ghost use Rattle.proxy_core_laws.specs.SentMessages.{OpenRequestsWereRead, TableNameIsAToken};
 ghost use Rattle.proxy_core_laws.specs.SentMessages.{OneRequestIsNeitherTwoNorAPart, OneResponseIsNeitherTwoNorAPart};
-ghost use Rattle.proxy_core_laws.specs.SentMessages.{EachStepSendsOneMessage};
+ghost use Rattle.proxy_core_laws.specs.SentMessages.{EachStepSendsAtMostOneMessage};
 ghost use Rattle.proxy_core_laws.specs.SentMessages.{StoredContentFits64Bits};
 
 /// What the laws on one message take for granted holds of what was read. The name in a table that was read is a token,
@@ -22,8 +22,8 @@ pub fn what_was_read_can_be_sent()
 /// or none: what goes forward is one request, what a client gets is one response, and each ends where the proxy ended
 /// it (RFC 9112, sections 6.3, 11.1 and 11.2). That an engine hands its core nothing else is a law of
 /// `proxy_engine_laws`.
-pub fn a_core_sends_one_message_each_time()
-    ensures each { EachStepSendsOneMessage }
+pub fn a_core_sends_at_most_one_message_each_time()
+    ensures each { EachStepSendsAtMostOneMessage }
     ensures one_request { OneRequestIsNeitherTwoNorAPart }
     ensures one_response { OneResponseIsNeitherTwoNorAPart }
 {}

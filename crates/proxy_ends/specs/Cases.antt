@@ -1,7 +1,7 @@
 -- The limits, peers, clients and links that the laws of worked cases speak of.
 use Rattle.std.specs.Prelude.{ℕ, List, [], Bool, true, false, Option, None, Some, length}
 use Rattle.std.specs.declared.alloc.Global.{Global}
-use Rattle.proxy_figures.specs.declared.origins.Admission.TheVariants as admission
+use Rattle.proxy_figures.specs.declared.origins.LinkAdmission.TheVariants as admission
 use Rattle.proxy_streams.specs.PeerCalls.{new_peer}
 use Rattle.proxy_ends.specs.Streams.{new_client}
 use Rattle.proxy_ends.specs.declared.clients.client.Client.{Client}

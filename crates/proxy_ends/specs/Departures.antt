@@ -1,6 +1,6 @@
 -- Clients that go with a request that isn't answered.
 --
--- unanswered_departure_of, client_after_departure: what is told of a client that goes, once, and the client then
+-- unanswered_departure_of, client_with_departure_told: what is told of a client that goes, once, and the client then
 -- words_of_open_or_read_request: what it asked for
 -- words_of_departure: what the line of the log about it says
 -- UnansweredDepartureIsLogged: what becomes of that line
@@ -14,7 +14,7 @@ use Rattle.proxy_figures.specs.Counts.{count_plus}
 use Rattle.proxy_figures.specs.Unanswered.{unanswered_name}
 use Rattle.proxy_figures.specs.declared.unanswered.UnansweredCause.{UnansweredCause}
 use Rattle.proxy_log.specs.Asked.{AskedWords, asked_words, asked_words_of_head}
-use Rattle.proxy_log.specs.Line.{LineWords, log_line_text, unanswered_reason}
+use Rattle.proxy_log.specs.Line.{LogLineWords, log_line_text, unanswered_reason}
 use Rattle.proxy_log.specs.PendingLines.{LineIsAddedOrLost}
 use Rattle.proxy_log.specs.declared.kept_line.RequestLine.{RequestLine}
 use Rattle.proxy_log.specs.declared.logged_request.LoggedRequest.{LoggedRequest}
@@ -22,8 +22,8 @@ use Rattle.proxy_log.specs.declared.pending_lines.Lines.{Lines}
 use Rattle.proxy_ends.specs.declared.clients.Clients.{Clients}
 use Rattle.proxy_ends.specs.declared.clients.client.Client.{Client}
 use Rattle.proxy_ends.specs.declared.clients.client.LoggedClient.{LoggedClient}
-use Rattle.proxy_ends.specs.declared.clients.client.Place.{Place}
-use Rattle.proxy_ends.specs.declared.clients.client.Place.TheVariants as place
+use Rattle.proxy_ends.specs.declared.clients.client.ClientStreamState.{ClientStreamState}
+use Rattle.proxy_ends.specs.declared.clients.client.ClientStreamState.TheVariants as place
 use Rattle.proxy_ends.specs.declared.clients.departures.UnansweredDeparture.{UnansweredDeparture}
 
 -- one with a request that was begun and isn't answered
@@ -32,8 +32,9 @@ unanswered_departure_of cause client =
     if client.is_begun then Some (record { cause = cause; asked = client.asked; logged = client.logged }) else None
 
 -- what was told isn't told again
-abbrev pub client_after_departure : {S : Type 0} → Client S → Client S
-client_after_departure client = if client.is_begun then record client { is_begun = false; logged = None } else client
+abbrev pub client_with_departure_told : {S : Type 0} → Client S → Client S
+client_with_departure_told client = if client.is_begun then record client { is_begun = false; logged = None }
+    else client
 
 -- its request that is open; else what its request line says, where that came whole and has no fault
 abbrev pub words_of_open_or_read_request : Option LoggedRequest → RequestLine → AskedWords
@@ -41,7 +42,7 @@ words_of_open_or_read_request None line = asked_words_of_head line.text.items
 words_of_open_or_read_request (Some request) line = asked_words request
 
 -- the line of the log names what it asked for, why it has no answer, and the origin that was asked
-abbrev pub words_of_departure : AskedWords → List ℕ → UnansweredCause → ℕ → ℕ → List ℕ → LineWords
+abbrev pub words_of_departure : AskedWords → List ℕ → UnansweredCause → ℕ → ℕ → List ℕ → LogLineWords
 words_of_departure asked address cause moment took origin = record {
   moment = moment;
   client = address;
@@ -56,11 +57,12 @@ words_of_departure asked address cause moment took origin = record {
 
 -- it stands behind the others, or where there is no room it is lost, and counts as that; of one of which no log is kept
 -- there is none
-abbrev pub LineIsAddedIfLogged : Option (Box LoggedClient) → UnansweredCause → Option LoggedRequest → ℕ → ℕ → List ℕ
+abbrev pub DepartureLineIsAddedIfLogged : Option (Box LoggedClient) → UnansweredCause → Option LoggedRequest → ℕ → ℕ
+    → List ℕ
     → Lines
     → Lines → Type 0
-LineIsAddedIfLogged None cause request moment took origin old new = new ≡ old
-LineIsAddedIfLogged (Some logged) cause request moment took origin old new =
+DepartureLineIsAddedIfLogged None cause request moment took origin old new = new ≡ old
+DepartureLineIsAddedIfLogged (Some logged) cause request moment took origin old new =
     LineIsAddedOrLost (log_line_text
     (words_of_departure (words_of_open_or_read_request request logged.value.line)
     (string_bytes logged.value.address) cause moment took
@@ -69,7 +71,7 @@ LineIsAddedIfLogged (Some logged) cause request moment took origin old new =
 abbrev pub UnansweredDepartureIsLogged : UnansweredDeparture → Option LoggedRequest → ℕ → ℕ → List ℕ → Lines → Lines
     → Type 0
 UnansweredDepartureIsLogged departure request moment took origin old new =
-    LineIsAddedIfLogged departure.logged departure.cause request moment took origin old new
+    DepartureLineIsAddedIfLogged departure.logged departure.cause request moment took origin old new
 
 -- its number and what is told of it stand behind the others, and no line is lost
 abbrev pub LostClientIsListed : {S : Type 0} → ℕ → Option UnansweredDeparture → Clients S → Clients S → Type 0
@@ -85,12 +87,13 @@ LostClientIsListedIfMemory number departure old new =
     × (new.lost_lines ≡ (if is_some departure then count_plus old.lost_lines 1 else old.lost_lines)))
 
 -- it is told of a client that it knew, and whose stream is dropped for a cause, and of nobody else
-abbrev pub LossOfPlaceIsListed : {S : Type 0} → Place → Option UnansweredDeparture → Clients S → Clients S → Type 0
-LossOfPlaceIsListed (place.Open n) departure old new = LostClientIsListedIfMemory n departure old new
-LossOfPlaceIsListed (place.In queue since) departure old new =
+abbrev pub LossIsListedIfClientIsOpen : {S : Type 0} → ClientStreamState → Option UnansweredDeparture → Clients S
+    → Clients S → Type 0
+LossIsListedIfClientIsOpen (place.Open n) departure old new = LostClientIsListedIfMemory n departure old new
+LossIsListedIfClientIsOpen (place.In queue since) departure old new =
     (new.lost.items ≡ old.lost.items) × (new.lost_lines ≡ old.lost_lines)
 
 abbrev pub LossOfClientIsListed : {S : Type 0} → UnansweredCause → Option (Client S) → Clients S → Clients S → Type 0
 LossOfClientIsListed cause None old new = (new.lost.items ≡ old.lost.items) × (new.lost_lines ≡ old.lost_lines)
 LossOfClientIsListed cause (Some client) old new =
-    LossOfPlaceIsListed client.place (unanswered_departure_of cause client) old new
+    LossIsListedIfClientIsOpen client.place (unanswered_departure_of cause client) old new

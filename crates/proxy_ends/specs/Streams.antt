@@ -1,16 +1,17 @@
 -- What was done with the stream of a client or a link.
 --
--- IsDoneToClientsPeer: it was done to the peer of a client
+-- ClientsPeerIsChangedBy: it was done to the peer of a client
 -- IsDoneToLinksPeer: to the stream of a link, where it has one
 -- peer_of_link: of a link
--- client_at, stream_at_number: who stands at a key, and at that of a number
--- unsent_bytes_of_client, handed_in_bytes_of_client, unsent_bytes_after_change: what is held for a client, and for all
+-- client_at, client_at_number: who stands at a key, and at that of a number
+-- unsent_bytes_of_client, handed_in_bytes_of_client, unsent_bytes_of_all_after_change: what is held for a client, and
+-- for all
 -- client_may_have_input: a read of a client would give something, or may
 -- ClosedClientIsReadOn: what a read does of one that was closed
 -- ClientIsRead: what a read of a client hands in
--- number_of_client_to_list, link_is_to_be_listed: who is to be put among the ends that are read next
--- client_marked_if_input, link_marked_if_input: who is to be put there is marked
--- unlisted_client, unlisted_link: who is taken from there is not
+-- number_of_client_to_list, link_is_to_be_listed_for_read: who is to be put among the ends that are read next
+-- client_listed_if_input, link_listed_if_input: who is to be put there is marked
+-- client_marked_unlisted, link_marked_unlisted: who is taken from there is not
 -- new_client: one with which nothing was done
 -- client_is_idle: a client is between two requests      bytes_held_of_peer: what is held for a peer
 use Rattle.std.specs.Prelude.{◌≡◌, ◌<◌, ◌+◌, ◌-◌, ◌^◌, ℕ, min, Bool, true, false, not, ◌&&◌, ◌||◌, ◌==◌}
@@ -32,8 +33,8 @@ use Rattle.proxy_pacing.specs.RestBytes.{has_no_bytes}
 use Rattle.proxy_streams.specs.PeerCalls.{PeerIsRead}
 use Rattle.proxy_streams.specs.Peers.{PeerReadOutcome, Nothing, Bytes, Ended, IsLastingError}
 use Rattle.proxy_ends.specs.declared.clients.client.Client.{Client}
-use Rattle.proxy_ends.specs.declared.clients.client.Place.{Place}
-use Rattle.proxy_ends.specs.declared.clients.client.Place.TheVariants as place
+use Rattle.proxy_ends.specs.declared.clients.client.ClientStreamState.{ClientStreamState}
+use Rattle.proxy_ends.specs.declared.clients.client.ClientStreamState.TheVariants as place
 use Rattle.proxy_ends.specs.declared.links.link.Link.{Link}
 use Rattle.proxy_streams.specs.declared.peer.Peer.{Peer}
 
@@ -49,8 +50,8 @@ pub record ClosedClientIsReadOn {S : Type 0} (Passed : S → List ℕ → List P
 abbrev pub client_at : {S : Type 0} → Slab (Box (Client S)) → ℕ → Option (Client S)
 client_at streams key = option_map (λ b. b.value) (slab.get streams key)
 
-abbrev pub stream_at_number : {S : Type 0} → BTreeMap ℕ ℕ → Slab (Box (Client S)) → ℕ → Option (Client S)
-stream_at_number keys streams n = option_and_then (client_at streams) (get nat_cmp keys n)
+abbrev pub client_at_number : {S : Type 0} → BTreeMap ℕ ℕ → Slab (Box (Client S)) → ℕ → Option (Client S)
+client_at_number keys streams n = option_and_then (client_at streams) (get nat_cmp keys n)
 
 -- bytes that are held for a client, since it hasn't taken them yet, and of its request; of nobody none are
 abbrev pub unsent_bytes_of_client : {S : Type 0} → Option (Client S) → ℕ
@@ -62,15 +63,15 @@ handed_in_bytes_of_client None = 0
 handed_in_bytes_of_client (Some client) = client.handed
 
 -- those that are held for all clients, where one of them has changed to this one
-abbrev pub unsent_bytes_after_change : {S : Type 0} → ℕ → Option (Client S) → Option (Client S) → ℕ
-unsent_bytes_after_change all None new = all
-unsent_bytes_after_change all (Some client) new =
+abbrev pub unsent_bytes_of_all_after_change : {S : Type 0} → ℕ → Option (Client S) → Option (Client S) → ℕ
+unsent_bytes_of_all_after_change all None new = all
+unsent_bytes_of_all_after_change all (Some client) new =
     min (all - client.peer.unsent.held + unsent_bytes_of_client new) (2 ^ 64 - 1)
 
-abbrev pub IsDoneToClientsPeer : {S : Type 0} → (Peer S → Peer S → Type 0) → Option (Client S) → Option (Client S)
+abbrev pub ClientsPeerIsChangedBy : {S : Type 0} → (Peer S → Peer S → Type 0) → Option (Client S) → Option (Client S)
     → Type 0
-IsDoneToClientsPeer Done None new = new ≡ None
-IsDoneToClientsPeer Done (Some client) new =
+ClientsPeerIsChangedBy Done None new = new ≡ None
+ClientsPeerIsChangedBy Done (Some client) new =
     IsSomeAnd new (λ after. (after ≡ record client { peer = after.peer }) × Done client.peer after.peer)
 
 abbrev pub peer_of_link : {S : Type 0} → Option (Link S) → Option (Peer S)
@@ -97,9 +98,9 @@ peer_failed_to_connect None = false
 peer_failed_to_connect (Some peer) = peer.broken && peer.connecting
 
 -- nothing more can be written to a client, or there is none
-abbrev pub client_cannot_be_written : {S : Type 0} → Option (Client S) → Bool
-client_cannot_be_written None = true
-client_cannot_be_written (Some client) = client.peer.broken
+abbrev pub client_is_absent_or_broken : {S : Type 0} → Option (Client S) → Bool
+client_is_absent_or_broken None = true
+client_is_absent_or_broken (Some client) = client.peer.broken
 
 -- bytes are left of those that came and weren't handed in
 abbrev pub client_has_bytes_not_handed_in : Option (List ℕ) → Bool
@@ -111,16 +112,16 @@ abbrev pub client_may_have_input : {S : Type 0} → Client S → Bool
 client_may_have_input client = not (nat_lt 0 (length client.peer.unsent.bytes)) &&
     (client.peer.readable || client_has_bytes_not_handed_in client.rest)
 
-abbrev pub rest_bytes : Option (List ℕ) → List ℕ
-rest_bytes None = []
-rest_bytes (Some rest) = rest
+abbrev pub input_bytes_not_handed_in : Option (List ℕ) → List ℕ
+input_bytes_not_handed_in None = []
+input_bytes_not_handed_in (Some rest) = rest
 
 -- what reads of a stream gave, one after another
-abbrev pub bytes_of_outcomes : List PeerReadOutcome → List ℕ
-bytes_of_outcomes [] = []
-bytes_of_outcomes (Nothing reason ∷ more) = bytes_of_outcomes more
-bytes_of_outcomes (Bytes bytes ∷ more) = bytes ++ bytes_of_outcomes more
-bytes_of_outcomes (Ended ∷ more) = bytes_of_outcomes more
+abbrev pub bytes_given_by_reads : List PeerReadOutcome → List ℕ
+bytes_given_by_reads [] = []
+bytes_given_by_reads (Nothing reason ∷ more) = bytes_given_by_reads more
+bytes_given_by_reads (Bytes bytes ∷ more) = bytes ++ bytes_given_by_reads more
+bytes_given_by_reads (Ended ∷ more) = bytes_given_by_reads more
 
 -- what is handed in stands at the front of the buffer
 abbrev pub received_bytes : Received → List ℕ → List ℕ
@@ -147,9 +148,11 @@ pub record ClientIsRead {S : Type 0} (Passed : S → List ℕ → List PeerReadO
     (buf : List ℕ) (old new : Client S) : Type 0 where
   pub gave : List PeerReadOutcome
   pub passed : Passed old.peer.stream [] gave new.peer.stream
-  pub bytes : received_bytes received buf ++ rest_bytes new.rest ≡ rest_bytes old.rest ++ bytes_of_outcomes gave
-  pub left : old.peer.unsent.bytes ≡ [] → 0 < length (rest_bytes old.rest) → 0 < length (received_bytes received buf)
-  pub told : old.peer.unsent.bytes ≡ [] → rest_bytes old.rest ≡ [] → old.peer.readable ≡ true
+  pub bytes : received_bytes received buf ++ input_bytes_not_handed_in new.rest ≡ input_bytes_not_handed_in old.rest
+      ++ bytes_given_by_reads gave
+  pub left : old.peer.unsent.bytes ≡ [] → 0 < length (input_bytes_not_handed_in old.rest)
+      → 0 < length (received_bytes received buf)
+  pub told : old.peer.unsent.bytes ≡ [] → input_bytes_not_handed_in old.rest ≡ [] → old.peer.readable ≡ true
       → OneReadIsReported gave received buf
 
 -- it was done to the client of a number, or there is none
@@ -159,17 +162,17 @@ abbrev pub CallIsDoneToClientOfNumber : {S : Type 0} → (Client S → Client S 
 CallIsDoneToClientOfNumber Done None new = new ≡ None
 CallIsDoneToClientOfNumber Done (Some client) new = IsSomeAnd new (Done client)
 
-abbrev pub client_number_of_place : Place → Option ℕ
+abbrev pub client_number_of_place : ClientStreamState → Option ℕ
 client_number_of_place (place.Open n) = Some n
 client_number_of_place (place.In queue since) = None
 
 -- it is between two requests: nothing of one was handed in, nor is to be
-abbrev pub place_is_open : Place → Bool
-place_is_open (place.Open n) = true
-place_is_open (place.In queue since) = false
+abbrev pub client_stream_is_open : ClientStreamState → Bool
+client_stream_is_open (place.Open n) = true
+client_stream_is_open (place.In queue since) = false
 
 abbrev pub client_is_idle : {S : Type 0} → Client S → Bool
-client_is_idle client = place_is_open client.place
+client_is_idle client = client_stream_is_open client.place
     && (not client.is_begun && not (client_has_bytes_not_handed_in client.rest))
 
 -- a client that may give something and doesn't stand among the ends that are read next
@@ -179,29 +182,29 @@ number_of_client_to_list (Some client) =
     if client.is_listed || not (client_may_have_input client) then None else client_number_of_place client.place
 
 -- who is to be put there is marked
-abbrev pub client_marked_if_input : {S : Type 0} → Client S → Client S
-client_marked_if_input client = record client { is_listed = client.is_listed || client_may_have_input client }
+abbrev pub client_listed_if_input : {S : Type 0} → Client S → Client S
+client_listed_if_input client = record client { is_listed = client.is_listed || client_may_have_input client }
 
 -- it is looked at next at a moment
 abbrev pub client_with_next_check : {S : Type 0} → ℕ → Client S → Client S
 client_with_next_check moment client = record client { look = moment }
 
-abbrev pub unlisted_client : {S : Type 0} → Client S → Client S
-unlisted_client client = record client { is_listed = false }
+abbrev pub client_marked_unlisted : {S : Type 0} → Client S → Client S
+client_marked_unlisted client = record client { is_listed = false }
 
 abbrev pub peer_may_have_input : {S : Type 0} → Option (Peer S) → Bool
 peer_may_have_input None = false
 peer_may_have_input (Some peer) = peer.readable
 
-abbrev pub link_is_to_be_listed : {S : Type 0} → Option (Link S) → Bool
-link_is_to_be_listed None = false
-link_is_to_be_listed (Some link) = not link.is_listed && peer_may_have_input link.peer
+abbrev pub link_is_to_be_listed_for_read : {S : Type 0} → Option (Link S) → Bool
+link_is_to_be_listed_for_read None = false
+link_is_to_be_listed_for_read (Some link) = not link.is_listed && peer_may_have_input link.peer
 
-abbrev pub link_marked_if_input : {S : Type 0} → Link S → Link S
-link_marked_if_input link = record link { is_listed = link.is_listed || peer_may_have_input link.peer }
+abbrev pub link_listed_if_input : {S : Type 0} → Link S → Link S
+link_listed_if_input link = record link { is_listed = link.is_listed || peer_may_have_input link.peer }
 
-abbrev pub unlisted_link : {S : Type 0} → Link S → Link S
-unlisted_link link = record link { is_listed = false }
+abbrev pub link_marked_unlisted : {S : Type 0} → Link S → Link S
+link_marked_unlisted link = record link { is_listed = false }
 
 -- bytes that came from a peer, and those that it hasn't taken yet
 abbrev pub bytes_held_of_peer : {S : Type 0} → Option (Peer S) → ℕ

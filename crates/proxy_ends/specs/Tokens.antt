@@ -10,7 +10,7 @@ holder_of_token token =
     if token.0 % 4 == 0 then Client (token.0 / 4) else if token.0 % 4 == 1 then Link (token.0 / 4) else Listener
 
 -- its key or number times 4 is a token
-abbrev pub TokenHolderHasToken : TokenHolder → Type 0
-TokenHolderHasToken Listener = Unit {0}
-TokenHolderHasToken (Client key) = key < 2 ^ 62
-TokenHolderHasToken (Link number) = number < 2 ^ 62
+abbrev pub TokenHolderFitsToken : TokenHolder → Type 0
+TokenHolderFitsToken Listener = Unit {0}
+TokenHolderFitsToken (Client key) = key < 2 ^ 62
+TokenHolderFitsToken (Link number) = number < 2 ^ 62

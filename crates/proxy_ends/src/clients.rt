@@ -14,19 +14,19 @@ ghost use Rattle.slab.specs.Slab.{slab_len};
 ghost use Rattle.proxy_reads.specs.Received.{ReceivedBytesAreAtMostRoom};
 ghost use Rattle.proxy_ends.specs.OtherEntries.{EntriesOfOtherNumbersStay, StreamsOfOtherKeysStay, ChangesOnlyAtNumber};
 ghost use Rattle.proxy_streams.specs.PeerCalls.{PeerIsWritten};
-ghost use Rattle.proxy_ends.specs.Streams.{IsDoneToClientsPeer, stream_at_number, client_cannot_be_written};
+ghost use Rattle.proxy_ends.specs.Streams.{ClientsPeerIsChangedBy, client_at_number, client_is_absent_or_broken};
 ghost use Rattle.proxy_ends.specs.Streams.{client_at, unsent_bytes_of_client, handed_in_bytes_of_client};
-ghost use Rattle.proxy_ends.specs.Streams.{unsent_bytes_after_change};
+ghost use Rattle.proxy_ends.specs.Streams.{unsent_bytes_of_all_after_change};
 ghost use Rattle.proxy_ends.specs.Streams.{ClientIsRead, CallIsDoneToClientOfNumber, number_of_client_to_list};
-ghost use Rattle.proxy_ends.specs.Streams.{client_marked_if_input};
-ghost use Rattle.proxy_ends.specs.Streams.{unlisted_client, client_with_next_check};
-ghost use Rattle.proxy_ends.specs.Closing.{ClientIsInQueue, NumberOfClientIsRemoved, ClientIsQueuedOrDropped};
+ghost use Rattle.proxy_ends.specs.Streams.{client_listed_if_input};
+ghost use Rattle.proxy_ends.specs.Streams.{client_marked_unlisted, client_with_next_check};
+ghost use Rattle.proxy_ends.specs.Closing.{ClientIsInQueue, OpenNumberOfClientIsRemoved, ClientIsQueuedOrDropped};
 ghost use Rattle.proxy_ends.specs.Closing.{FirstLingeringIsDropped};
 ghost use Rattle.proxy_ends.specs.Timeouts.{milliseconds_since, IsIdleClientSince, IsClientNotMarkedHalfClosed};
 ghost use Rattle.proxy_figures.specs.Counts.{counts_with_one_more};
 ghost use Rattle.proxy_figures.specs.EndingCounts.{end_counts_with_cut};
 ghost use Rattle.proxy_figures.specs.Unanswered.{cause_of_cut, unanswered_place};
-ghost use Rattle.proxy_ends.specs.Departures.{unanswered_departure_of, client_after_departure, LostClientIsListed};
+ghost use Rattle.proxy_ends.specs.Departures.{unanswered_departure_of, client_with_departure_told, LostClientIsListed};
 ghost use Rattle.proxy_ends.specs.Departures.{LossOfClientIsListed, LostClientIsListedIfMemory};
 
 pub mod client;
@@ -35,12 +35,12 @@ pub mod departures;
 mod giving_way;
 mod timeouts;
 
-use crate::clients::client::{Client, Place};
+use crate::clients::client::{Client, ClientStreamState};
 use crate::clients::departures::{LostClient, UnansweredDeparture};
 use crate::limits::Limits;
 use mio::event::Event;
 use proxy_figures::{ClientEndCounts, CutReason, UnansweredCause, UnansweredCounts};
-use proxy_pacing::{Moments, StreamQueue, StreamQueues};
+use proxy_pacing::{ClosedStreamQueue, ClosedStreamQueues, Moments};
 use proxy_reads::Received;
 use proxy_streams::{Peer, Socket, Stream, held_bytes_after_change};
 use slab::Slab;
@@ -55,7 +55,7 @@ pub struct Clients<S: Stream + Drop = Socket> {
     /// The keys of those that the engine knows, by their numbers.
     pub open: BTreeMap<u64, usize>,
     /// Those that were closed.
-    pub queues: StreamQueues,
+    pub queues: ClosedStreamQueues,
     /// Those that are or were between two requests, by the moment since when. One that was idle again later stands by
     /// the earlier moment until somebody looks.
     idle: Moments,
@@ -118,7 +118,7 @@ impl<S: Stream + Drop> Clients<S> {
             alloc,
             streams: Slab::new(alloc),
             open: BTreeMap::new(alloc),
-            queues: StreamQueues::new(alloc),
+            queues: ClosedStreamQueues::new(alloc),
             idle: Moments::new(alloc),
             looks: Moments::new(alloc),
             half_closed_since: Moments::new(alloc),
@@ -154,8 +154,8 @@ impl<S: Stream + Drop> Clients<S> {
             (2 ^ 64 - 1) }
     {
         self.queues
-            .len(StreamQueue::Leaving)
-            .saturating_add(self.queues.len(StreamQueue::Lingering))
+            .len(ClosedStreamQueue::Leaving)
+            .saturating_add(self.queues.len(ClosedStreamQueue::Lingering))
     }
 
     /// The key of a number.
@@ -175,17 +175,17 @@ impl<S: Stream + Drop> Clients<S> {
 
     /// The client of a number.
     pub fn get(&self, n: u64) -> Option<&Client<S>>
-        ensures { option_copied result ≡ stream_at_number self.now.open self.now.streams n }
+        ensures { option_copied result ≡ client_at_number self.now.open self.now.streams n }
     {
         self.stream(self.key_of(n)?)
     }
 
     /// The same, to be changed.
     pub fn get_mut(&mut self, n: u64) -> Option<&mut Client<S>>
-        ensures { option_copied_mut result ≡ stream_at_number self.old.open self.old.streams n }
+        ensures { option_copied_mut result ≡ client_at_number self.old.open self.old.streams n }
     {
         let key = self.key_of(n)?;
-        self.stream_mut(key)
+        self.client_at_key_mut(key)
     }
 
     /// The client of a key.
@@ -197,7 +197,7 @@ impl<S: Stream + Drop> Clients<S> {
     }
 
     /// The same, to be changed.
-    pub fn stream_mut(&mut self, key: usize) -> Option<&mut Client<S>>
+    pub fn client_at_key_mut(&mut self, key: usize) -> Option<&mut Client<S>>
         ensures { option_copied_mut result ≡ client_at self.old.streams key }
     {
         let client = self.streams.get_mut(key)?;
@@ -208,10 +208,10 @@ impl<S: Stream + Drop> Clients<S> {
     pub fn read(&mut self, n: u64, buf: &mut [u8], now: u64) -> io::Result<Received>
         ensures within { IfOk result (ReceivedBytesAreAtMostRoom (length buf.old)) }
         ensures length { length buf.new ≡ length buf.old }
-        ensures nothing { stream_at_number self.old.open self.old.streams n ≡ None → result ≡ Ok Received.Nothing }
+        ensures nothing { client_at_number self.old.open self.old.streams n ≡ None → result ≡ Ok Received.Nothing }
         ensures handed_in { 0 < length buf.old → IfOk result
             (λ received. CallIsDoneToClientOfNumber (ClientIsRead S.Passed received buf.new)
-            (stream_at_number self.old.open self.old.streams n) (stream_at_number self.new.open self.new.streams n)) }
+            (client_at_number self.old.open self.old.streams n) (client_at_number self.new.open self.new.streams n)) }
         ensures open { self.new.open ≡ self.old.open }
         ensures others { ChangesOnlyAtNumber self.old.open n self.old.streams self.new.streams }
     {
@@ -362,7 +362,7 @@ impl<S: Stream + Drop> Clients<S> {
     pub fn drop_stream(&mut self, key: usize, cause: UnansweredCause)
         ensures counts { self.new.endings ≡ self.old.endings }
         ensures gone { slab.get self.new.streams key ≡ None }
-        ensures open { NumberOfClientIsRemoved (client_at self.old.streams key) self.old.open self.new.open }
+        ensures open { OpenNumberOfClientIsRemoved (client_at self.old.streams key) self.old.open self.new.open }
         ensures unsent { self.new.unsent ≡ self.old.unsent - unsent_bytes_of_client (client_at self.old.streams key) }
         ensures handed { self.new.handed
             ≡ self.old.handed - handed_in_bytes_of_client (client_at self.old.streams key) }
@@ -373,12 +373,12 @@ impl<S: Stream + Drop> Clients<S> {
             return;
         };
         match client.place {
-            Place::Open(n) => {
+            ClientStreamState::Open(n) => {
                 let _ = self.remove_number(n);
                 let departure = self.count_departure(&mut *client, cause);
                 self.keep_lost(n, departure);
             }
-            Place::In(queue, stamp) => self.queues.remove(queue, stamp),
+            ClientStreamState::In(queue, stamp) => self.queues.remove(queue, stamp),
         }
     }
 
@@ -386,13 +386,13 @@ impl<S: Stream + Drop> Clients<S> {
     /// its request isn't answered.
     pub fn forget(&mut self, n: u64, cause: UnansweredCause) -> Option<UnansweredDeparture>
         ensures told { result ≡ option_and_then (unanswered_departure_of cause)
-            (stream_at_number self.old.open self.old.streams n) }
+            (client_at_number self.old.open self.old.streams n) }
         ensures gone { get nat_cmp self.new.open n ≡ None }
-        ensures dropped { stream_at_number self.old.open self.new.streams n ≡ None }
+        ensures dropped { client_at_number self.old.open self.new.streams n ≡ None }
         ensures unsent { self.new.unsent ≡ self.old.unsent
-            - unsent_bytes_of_client (stream_at_number self.old.open self.old.streams n) }
+            - unsent_bytes_of_client (client_at_number self.old.open self.old.streams n) }
         ensures handed { self.new.handed ≡ self.old.handed
-            - handed_in_bytes_of_client (stream_at_number self.old.open self.old.streams n) }
+            - handed_in_bytes_of_client (client_at_number self.old.open self.old.streams n) }
         ensures open { EntriesOfOtherNumbersStay n self.old.open self.new.open }
         ensures others { ChangesOnlyAtNumber self.old.open n self.old.streams self.new.streams }
     {
@@ -402,10 +402,10 @@ impl<S: Stream + Drop> Clients<S> {
     }
 
     /// Drops a stream for a reason that is counted.
-    pub fn cut_stream(&mut self, key: usize, cut: CutReason)
+    pub fn drop_stream_and_count(&mut self, key: usize, cut: CutReason)
         ensures counted { self.new.endings ≡ end_counts_with_cut self.old.endings cut }
         ensures gone { slab.get self.new.streams key ≡ None }
-        ensures open { NumberOfClientIsRemoved (client_at self.old.streams key) self.old.open self.new.open }
+        ensures open { OpenNumberOfClientIsRemoved (client_at self.old.streams key) self.old.open self.new.open }
         ensures unsent { self.new.unsent ≡ self.old.unsent - unsent_bytes_of_client (client_at self.old.streams key) }
         ensures handed { self.new.handed
             ≡ self.old.handed - handed_in_bytes_of_client (client_at self.old.streams key) }
@@ -441,9 +441,9 @@ impl<S: Stream + Drop> Clients<S> {
     /// counted.
     pub fn take_unanswered_departure(&mut self, n: u64) -> Option<UnansweredDeparture>
         ensures told { result ≡ option_and_then (unanswered_departure_of UnansweredCause.Closed)
-            (stream_at_number self.old.open self.old.streams n) }
-        ensures left { stream_at_number self.new.open self.new.streams n
-            ≡ option_map client_after_departure (stream_at_number self.old.open self.old.streams n) }
+            (client_at_number self.old.open self.old.streams n) }
+        ensures left { client_at_number self.new.open self.new.streams n
+            ≡ option_map client_with_departure_told (client_at_number self.old.open self.old.streams n) }
         ensures counted { IfSome result (λ departure. self.new.unanswered.counts
             ≡ counts_with_one_more self.old.unanswered.counts (unanswered_place UnansweredCause.Closed)) }
         ensures not_counted { result ≡ None → self.new.unanswered ≡ self.old.unanswered }
@@ -466,7 +466,7 @@ impl<S: Stream + Drop> Clients<S> {
     }
 
     /// Puts a stream into a queue, behind those that stand there. The engine doesn't know it any more.
-    pub fn join_queue(&mut self, key: usize, queue: StreamQueue)
+    pub fn join_queue(&mut self, key: usize, queue: ClosedStreamQueue)
         ensures stands { ClientIsQueuedOrDropped queue (client_at self.old.streams key)
             (client_at self.new.streams key) }
         ensures others { StreamsOfOtherKeysStay key self.old.streams self.new.streams }
@@ -476,7 +476,7 @@ impl<S: Stream + Drop> Clients<S> {
     }
 
     /// Puts a stream into a queue, by a stamp.
-    fn join_queue_since(&mut self, key: usize, queue: StreamQueue, stamp: u64)
+    fn join_queue_since(&mut self, key: usize, queue: ClosedStreamQueue, stamp: u64)
         ensures stands { ClientIsQueuedOrDropped queue (client_at self.old.streams key)
             (client_at self.new.streams key) }
         ensures others { StreamsOfOtherKeysStay key self.old.streams self.new.streams }
@@ -484,22 +484,22 @@ impl<S: Stream + Drop> Clients<S> {
         let Some(client) = self.streams.get_mut(key) else {
             return;
         };
-        if let Place::In(before, since) = client.place {
+        if let ClientStreamState::In(before, since) = client.place {
             self.queues.remove(before, since);
         }
-        client.place = Place::In(queue, stamp);
+        client.place = ClientStreamState::In(queue, stamp);
         if !self.queues.put(queue, stamp, key) {
             self.drop_stream(key, UnansweredCause::Closed);
         }
     }
 
     /// Puts a stream into another queue, where it stands by the stamp that it has.
-    pub fn move_to_queue(&mut self, key: usize, queue: StreamQueue)
+    pub fn move_to_queue(&mut self, key: usize, queue: ClosedStreamQueue)
         ensures still { ClientIsInQueue queue (client_at self.old.streams key) → self.new ≡ self.old }
         ensures others { StreamsOfOtherKeysStay key self.old.streams self.new.streams }
     {
         if let Some(client) = self.streams.get(key) {
-            if let Place::In(before, stamp) = client.place {
+            if let ClientStreamState::In(before, stamp) = client.place {
                 if before != queue {
                     self.join_queue_since(key, queue, stamp);
                 }
@@ -509,7 +509,8 @@ impl<S: Stream + Drop> Clients<S> {
 
     /// Writes what is kept for a client, as far as the system takes it. Whether that could be done.
     pub fn flush(&mut self, key: usize, now: u64) -> bool
-        ensures unsent { self.new.unsent ≡ unsent_bytes_after_change self.old.unsent (client_at self.old.streams key)
+        ensures unsent { self.new.unsent
+            ≡ unsent_bytes_of_all_after_change self.old.unsent (client_at self.old.streams key)
             (client_at self.new.streams key) }
         ensures open { self.new.open ≡ self.old.open }
         ensures others { StreamsOfOtherKeysStay key self.old.streams self.new.streams }
@@ -527,13 +528,14 @@ impl<S: Stream + Drop> Clients<S> {
 
     /// Writes to a client, and keeps what the system doesn't take. Whether that could be done.
     pub fn write(&mut self, key: usize, bytes: &[u8], now: u64) -> bool
-        ensures written { IsDoneToClientsPeer (PeerIsWritten S.Passed bytes.now) (client_at self.old.streams key)
+        ensures written { ClientsPeerIsChangedBy (PeerIsWritten S.Passed bytes.now) (client_at self.old.streams key)
             (client_at self.new.streams key) }
         ensures there { OnTrue result (IsSome (client_at self.old.streams key)) }
-        ensures going { OnTrue result (client_cannot_be_written (client_at self.new.streams key)
-            ≡ client_cannot_be_written (client_at self.old.streams key)) }
-        ensures failed { OnFalse result (client_cannot_be_written (client_at self.new.streams key) ≡ true) }
-        ensures unsent { self.new.unsent ≡ unsent_bytes_after_change self.old.unsent (client_at self.old.streams key)
+        ensures going { OnTrue result (client_is_absent_or_broken (client_at self.new.streams key)
+            ≡ client_is_absent_or_broken (client_at self.old.streams key)) }
+        ensures failed { OnFalse result (client_is_absent_or_broken (client_at self.new.streams key) ≡ true) }
+        ensures unsent { self.new.unsent
+            ≡ unsent_bytes_of_all_after_change self.old.unsent (client_at self.old.streams key)
             (client_at self.new.streams key) }
         ensures open { self.new.open ≡ self.old.open }
         ensures others { StreamsOfOtherKeysStay key self.old.streams self.new.streams }
@@ -553,13 +555,14 @@ impl<S: Stream + Drop> Clients<S> {
     /// turn. Whether it was there, and written to.
     pub fn write_to(&mut self, n: u64, bytes: &[u8], now: u64) -> bool
         ensures written { OnTrue result
-            (IsDoneToClientsPeer (PeerIsWritten S.Passed bytes.now) (stream_at_number self.old.open self.old.streams n)
-            (stream_at_number self.new.open self.new.streams n)) }
-        ensures there { OnTrue result (IsSome (stream_at_number self.old.open self.old.streams n)) }
-        ensures going { OnTrue result (client_cannot_be_written (stream_at_number self.new.open self.new.streams n)
-            ≡ client_cannot_be_written (stream_at_number self.old.open self.old.streams n)) }
+            (ClientsPeerIsChangedBy (PeerIsWritten S.Passed bytes.now)
+            (client_at_number self.old.open self.old.streams n)
+            (client_at_number self.new.open self.new.streams n)) }
+        ensures there { OnTrue result (IsSome (client_at_number self.old.open self.old.streams n)) }
+        ensures going { OnTrue result (client_is_absent_or_broken (client_at_number self.new.open self.new.streams n)
+            ≡ client_is_absent_or_broken (client_at_number self.old.open self.old.streams n)) }
         ensures open { OnTrue result (self.new.open ≡ self.old.open) }
-        ensures gone { OnFalse result (stream_at_number self.old.open self.new.streams n ≡ None) }
+        ensures gone { OnFalse result (client_at_number self.old.open self.new.streams n ≡ None) }
         ensures others { ChangesOnlyAtNumber self.old.open n self.old.streams self.new.streams }
     {
         let Some(key) = self.key_of(n) else {
@@ -586,7 +589,7 @@ impl<S: Stream + Drop> Clients<S> {
         self.handed = self.handed.saturating_sub(client.handed);
         client.answered(now);
         if !self.mark_idle(key) {
-            self.cut_stream(key, CutReason::Memory);
+            self.drop_stream_and_count(key, CutReason::Memory);
         }
         took
     }
@@ -595,7 +598,7 @@ impl<S: Stream + Drop> Clients<S> {
     pub fn is_done(&self) -> bool
         ensures { result ≡ (slab_len self.now.streams == btree_map_len self.now.queues.lingering) }
     {
-        self.streams.len() == self.queues.len(StreamQueue::Lingering)
+        self.streams.len() == self.queues.len(ClosedStreamQueue::Lingering)
     }
 
     /// Of the clients that are between two requests the one that is so for the longest, and since when. Marks of those
@@ -624,7 +627,7 @@ impl<S: Stream + Drop> Clients<S> {
     fn renew_idle_mark(&mut self, key: usize) {
         let is_idle = self.stream(key).is_some_and(Client::is_idle);
         if is_idle && !self.mark_idle(key) {
-            self.cut_stream(key, CutReason::Memory);
+            self.drop_stream_and_count(key, CutReason::Memory);
         }
     }
 
@@ -636,7 +639,7 @@ impl<S: Stream + Drop> Clients<S> {
         };
         let has_asked = self.stream(key).is_some_and(|it| it.has_asked);
         if since < now || has_asked {
-            self.cut_stream(key, CutReason::Room);
+            self.drop_stream_and_count(key, CutReason::Room);
             return true;
         }
         false
@@ -660,10 +663,10 @@ impl<S: Stream + Drop> Clients<S> {
     }
 
     /// Takes out the first client of those that have sent their end: its number, if the engine knows it.
-    pub fn next_half_closed(&mut self) -> Option<u64>
+    pub fn take_first_half_closed(&mut self) -> Option<u64>
         ensures { IfSome result (λ n. (key : ℕ) × IsClientNotMarkedHalfClosed n (client_at self.new.streams key)) }
     {
-        let key = self.half_closed_since.take_due(u64::MAX)? as usize;
+        let key = self.half_closed_since.take_earliest_due(u64::MAX)? as usize;
         let client = self.streams.get_mut(key)?;
         client.departed_mark = None;
         client.number()
@@ -671,7 +674,7 @@ impl<S: Stream + Drop> Clients<S> {
 
     /// Makes room for one more stream, where there are as many as may be: of those that were closed the first goes, or
     /// else the one that is idle for the longest. Whether there is room now.
-    pub fn make_room_for_a_stream(&mut self, now: u64) -> bool
+    pub fn make_room_for_a_client_stream(&mut self, now: u64) -> bool
         ensures room { slab_len self.old.streams < self.old.limits.connections → (self.new ≡ self.old) × IsTrue result }
         ensures first { self.old.limits.connections ≤ slab_len self.old.streams
             → FirstLingeringIsDropped self.old.queues self.old.streams self.new.streams result }
@@ -679,7 +682,7 @@ impl<S: Stream + Drop> Clients<S> {
         if self.len() < self.limits.connections {
             return true;
         }
-        if let Some(key) = self.queues.first(StreamQueue::Lingering) {
+        if let Some(key) = self.queues.first(ClosedStreamQueue::Lingering) {
             self.drop_stream(key, UnansweredCause::Closed);
             return true;
         }
@@ -688,10 +691,10 @@ impl<S: Stream + Drop> Clients<S> {
 
     /// Puts a client among the ends that are read next, where it may give something and doesn't stand there. Its number
     /// is to be added then.
-    pub fn begin_listing(&mut self, key: usize) -> Option<u64>
+    pub fn mark_listed_if_readable(&mut self, key: usize) -> Option<u64>
         ensures number { result ≡ number_of_client_to_list (client_at self.old.streams key) }
         ensures marked { client_at self.new.streams key
-            ≡ option_map client_marked_if_input (client_at self.old.streams key) }
+            ≡ option_map client_listed_if_input (client_at self.old.streams key) }
         ensures open { self.new.open ≡ self.old.open }
         ensures others { StreamsOfOtherKeysStay key self.old.streams self.new.streams }
     {
@@ -704,10 +707,10 @@ impl<S: Stream + Drop> Clients<S> {
     }
 
     /// Takes a client from the ends that are read next. Whether it is there.
-    pub fn end_listing(&mut self, n: u64) -> bool
-        ensures there { result ≡ is_some (stream_at_number self.old.open self.old.streams n) }
-        ensures marked { stream_at_number self.new.open self.new.streams n
-            ≡ option_map unlisted_client (stream_at_number self.old.open self.old.streams n) }
+    pub fn unmark_listed_to_read(&mut self, n: u64) -> bool
+        ensures there { result ≡ is_some (client_at_number self.old.open self.old.streams n) }
+        ensures marked { client_at_number self.new.open self.new.streams n
+            ≡ option_map client_marked_unlisted (client_at_number self.old.open self.old.streams n) }
         ensures open { self.new.open ≡ self.old.open }
         ensures others { ChangesOnlyAtNumber self.old.open n self.old.streams self.new.streams }
     {
@@ -722,11 +725,11 @@ impl<S: Stream + Drop> Clients<S> {
     }
 
     /// Takes what an event told of a stream.
-    pub fn mark_ready(&mut self, key: usize, event: &Event, now: u64) {
+    pub fn note_socket_event(&mut self, key: usize, event: &Event, now: u64) {
         let Some(client) = self.streams.get_mut(key) else {
             return;
         };
-        client.peer.mark_ready(event);
+        client.peer.note_socket_event(event);
         if client.peer.hung && client.left.is_none() {
             client.left = Some(now);
             self.mark_half_closed(key, now);

@@ -68,7 +68,7 @@ pub const MOST_ACCEPTED_PER_TURN: u64 = 64;
 pub const MOST_OPEN_CONNECTIONS: usize = 1_048_640;
 
 /// While no more connections are taken, one that has asked for nothing is given so many milliseconds.
-pub const FIRST_REQUEST_MILLISECONDS: u64 = 1000;
+pub const DRAINING_FIRST_REQUEST_MILLISECONDS: u64 = 1000;
 
 /// Connections that were closed, and whose clients may still send. Beyond it the one that was closed first is closed
 /// whole.

@@ -8,15 +8,15 @@ ghost use Rattle.std.specs.Bool.{OnTrue, OnFalse};
 ghost use Rattle.proxy_reads.specs.Received.{ReceivedBytesAreAtMostRoom};
 ghost use Rattle.proxy_ends.specs.Connecting.{link_is_connecting};
 ghost use Rattle.proxy_ends.specs.OtherEntries.{EntriesOfOtherNumbersStay};
-ghost use Rattle.proxy_ends.specs.Timeouts.{link_time_is_over, link_with_origin_timeout, milliseconds_open_of_link};
+ghost use Rattle.proxy_ends.specs.Timeouts.{link_time_is_over, link_given_origin_timeout, milliseconds_open_of_link};
 ghost use Rattle.proxy_streams.specs.PeerCalls.{PeerIsRead, PeerIsWritten};
 ghost use Rattle.proxy_ends.specs.Streams.{IsDoneToLinksPeer, peer_is_broken, peer_failed_to_connect, peer_of_link};
-ghost use Rattle.proxy_ends.specs.Streams.{link_is_to_be_listed, link_marked_if_input, unlisted_link};
+ghost use Rattle.proxy_ends.specs.Streams.{link_is_to_be_listed_for_read, link_listed_if_input, link_marked_unlisted};
 
 pub mod link;
 
 use crate::limits::{Limits, SECOND, TCP_SEGMENT_BYTES};
-use crate::links::link::{Link, mark_peer_ready};
+use crate::links::link::{Link, note_event_on_link_peer};
 use crate::socket_tokens::TokenHolder;
 use mio::Poll;
 use mio::event::Event;
@@ -55,13 +55,13 @@ impl<S: Stream + Drop> Drop for Links<S> {
 
 impl Links {
     /// Takes what an event told of a link; the answer is an error where its connection couldn't be made.
-    pub fn mark_ready(&mut self, number: u64, event: &Event, now: u64) -> io::Result<()>
+    pub fn note_socket_event(&mut self, number: u64, event: &Event, now: u64) -> io::Result<()>
         ensures others { EntriesOfOtherNumbersStay number self.old.items self.new.items }
     {
         if let Some(link) = self.items.get_mut(&number) {
             if let Some(peer) = &mut link.peer {
                 let (unsent, written) = (peer.unsent(), peer.written);
-                let marked = mark_peer_ready(peer, event, now);
+                let marked = note_event_on_link_peer(peer, event, now);
                 self.held = held_bytes_after_change(self.held, unsent, peer.unsent());
                 let more = peer.written.saturating_sub(written);
                 self.origins.add_written(link.origin, more);
@@ -72,7 +72,7 @@ impl Links {
     }
 
     /// Has a message for a link go without a wait, where it takes more than one segment.
-    pub fn send_without_delay(&self, number: u64, length: usize) {
+    pub fn set_no_delay_if_many_segments(&self, number: u64, length: usize) {
         if length <= TCP_SEGMENT_BYTES {
             return;
         }
@@ -93,7 +93,7 @@ impl Links {
         let Some(peer) = &mut link.peer else {
             return Ok(());
         };
-        peer.register_written(poll, TokenHolder::Link(number).token()?)
+        peer.register_without_more_writes(poll, TokenHolder::Link(number).token()?)
     }
 }
 
@@ -223,13 +223,13 @@ impl<S: Stream + Drop> Links<S> {
     pub fn next_to_check_timeout(&mut self, now: u64) -> Option<u64>
         ensures { self.new ≡ record self.old { looks = self.new.looks } }
     {
-        self.looks.take_due(now)
+        self.looks.take_earliest_due(now)
     }
 
     /// The line over which the request of a link went forward gives its origin so many seconds, or says nothing of it.
     pub fn set_origin_timeout_seconds(&mut self, number: u64, seconds: Option<u32>)
         ensures given { get nat_cmp self.new.items number
-            ≡ option_map (link_with_origin_timeout seconds) (get nat_cmp self.old.items number) }
+            ≡ option_map (link_given_origin_timeout seconds) (get nat_cmp self.old.items number) }
         ensures others { EntriesOfOtherNumbersStay number self.old.items self.new.items }
     {
         if let Some(link) = self.items.get_mut(&number) {
@@ -239,7 +239,7 @@ impl<S: Stream + Drop> Links<S> {
 
     /// A link was looked at, and its time isn't over: it is looked at once that may be, and no later than a time that
     /// begins now may be. Without memory for that, it is looked at no more.
-    pub fn look_again(&mut self, number: u64, now: u64, limits: &Limits)
+    pub fn reschedule_timeout_check(&mut self, number: u64, now: u64, limits: &Limits)
         ensures others { EntriesOfOtherNumbersStay number self.old.items self.new.items }
     {
         let Some(link) = self.items.get_mut(&number) else {
@@ -248,7 +248,7 @@ impl<S: Stream + Drop> Links<S> {
         let look = link
             .first_overtime_moment(limits)
             .max(now.saturating_add(SECOND))
-            .min(now.saturating_add(limits.link_check_milliseconds(link.silence(limits))));
+            .min(now.saturating_add(limits.link_check_milliseconds(link.silence_limit(limits))));
         self.looks.remove(link.look, number);
         link.look = look;
         let _ = self.looks.add(look, number);
@@ -256,10 +256,10 @@ impl<S: Stream + Drop> Links<S> {
 
     /// Puts a link among the ends that are read next, where it may give something and doesn't stand there. Whether its
     /// number is to be added.
-    pub fn begin_listing(&mut self, number: u64) -> bool
-        ensures listed { result ≡ link_is_to_be_listed (get nat_cmp self.old.items number) }
+    pub fn mark_listed_if_readable(&mut self, number: u64) -> bool
+        ensures listed { result ≡ link_is_to_be_listed_for_read (get nat_cmp self.old.items number) }
         ensures marked { get nat_cmp self.new.items number
-            ≡ option_map link_marked_if_input (get nat_cmp self.old.items number) }
+            ≡ option_map link_listed_if_input (get nat_cmp self.old.items number) }
         ensures others { EntriesOfOtherNumbersStay number self.old.items self.new.items }
     {
         let Some(link) = self.items.get_mut(&number) else {
@@ -277,10 +277,10 @@ impl<S: Stream + Drop> Links<S> {
     }
 
     /// Takes a link from the ends that are read next. Whether it is there.
-    pub fn end_listing(&mut self, number: u64) -> bool
+    pub fn unmark_listed_to_read(&mut self, number: u64) -> bool
         ensures there { result ≡ is_some (get nat_cmp self.old.items number) }
         ensures marked { get nat_cmp self.new.items number
-            ≡ option_map unlisted_link (get nat_cmp self.old.items number) }
+            ≡ option_map link_marked_unlisted (get nat_cmp self.old.items number) }
         ensures others { EntriesOfOtherNumbersStay number self.old.items self.new.items }
     {
         match self.items.get_mut(&number) {

@@ -2,7 +2,7 @@
 //!
 //! A token is a number: that of a client's key or of a link times 4, and which of these it is.
 ghost use Rattle.std.specs.Prelude.{◌≡◌, IfOk, IsOk};
-ghost use Rattle.proxy_ends.specs.Tokens.{holder_of_token, TokenHolderHasToken};
+ghost use Rattle.proxy_ends.specs.Tokens.{holder_of_token, TokenHolderFitsToken};
 
 use mio::Token;
 use std::io;
@@ -25,7 +25,7 @@ impl TokenHolder {
     /// Its token, which no other has. A key or a number that is too large has none.
     pub fn token(self) -> io::Result<Token>
         ensures reported { IfOk result (λ token. holder_of_token token ≡ self) }
-        ensures has { TokenHolderHasToken self → IsOk result }
+        ensures has { TokenHolderFitsToken self → IsOk result }
     {
         match self {
             TokenHolder::Client(key) if key < TOO_LARGE => Ok(Token(key * 4)),

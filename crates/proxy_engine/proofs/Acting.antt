@@ -8,12 +8,12 @@ use Rattle.hx_framing.specs.declared.messages.Next.TheVariants as next
 use Rattle.hx_hop.specs.declared.request_view.Asked.{Asked}
 use Rattle.hx_status.specs.declared.cause.Cause.{Cause}
 use Rattle.hx_status.specs.declared.cause.Cause.TheVariants as cause
-use Rattle.hx_status.specs.declared.question.Question.{Question}
+use Rattle.hx_status.specs.declared.question.MethodAndTarget.{MethodAndTarget}
 use Rattle.proxy_script.specs.declared.effect_list.Effect.{Effect}
 use Rattle.proxy_engine.specs.Admitted.{RequestIsAdmittedOrRefused}
 use Rattle.proxy_engine.specs.EngineModel.{EngineModel}
 use Rattle.proxy_engine.specs.Due.{LinkResult}
-use Rattle.proxy_engine.specs.Acts.{RequestIsRefused, ConnectionIsClosed, ConnectionIsServed}
+use Rattle.proxy_engine.specs.Acts.{RequestIsRefusedAndClosed, ConnectionIsClosedWithEffect, ConnectionRequestIsServed}
 use Rattle.proxy_engine.specs.State.{due_request_at, link_result_at}
 use Rattle.proxy_engine.specs.Actions.{IsActionOfMessage, IsActionForReaderAnswer, action_of_fault}
 use Rattle.proxy_engine.specs.declared.steps.actions.Action.{Action}
@@ -25,15 +25,15 @@ use Rattle.proxy_engine.specs.declared.endpoints.ends.Link.{Link}
 pub emitted_one : (before now : List Effect) (e : Effect) → now ≡ before ++ e ∷ [] → before ≡ [] → now ≡ e ∷ []
 emitted_one before now e is none = is ∙ ap (λ (b : List Effect). b ++ e ∷ []) none
 
-refuses_same : (s : EngineModel) (now i : ℕ) (a b : Cause) (c d : Bool) (q r : Option Question) (emitted : List Effect) (after : EngineModel) → action.Refuse a c q ≡ action.Refuse b d r → RequestIsRefused s now i a c q emitted after → RequestIsRefused s now i b d r emitted after
+refuses_same : (s : EngineModel) (now i : ℕ) (a b : Cause) (c d : Bool) (q r : Option MethodAndTarget) (emitted : List Effect) (after : EngineModel) → action.Refuse a c q ≡ action.Refuse b d r → RequestIsRefusedAndClosed s now i a c q emitted after → RequestIsRefusedAndClosed s now i b d r emitted after
 refuses_same s now i a b c d q r emitted after e h =
     let why : a ≡ b = cc in
     let head : c ≡ d = cc in
     let question : q ≡ r = cc in
-    subst (λ (x : Option Question). RequestIsRefused s now i b d x emitted after) question
-    (subst (λ (x : Bool). RequestIsRefused s now i b x q emitted after) head (subst (λ (x : Cause). RequestIsRefused s now i x c q emitted after) why h))
+    subst (λ (x : Option MethodAndTarget). RequestIsRefusedAndClosed s now i b d x emitted after) question
+    (subst (λ (x : Bool). RequestIsRefusedAndClosed s now i b x q emitted after) head (subst (λ (x : Cause). RequestIsRefusedAndClosed s now i x c q emitted after) why h))
 
-refused_frame : (s : EngineModel) (now i : ℕ) (f : FrameFault) (why : Cause) (head : Bool) (question : Option Question) (emitted : List Effect) (after : EngineModel) → action.Refuse why head question ≡ action_of_fault f → RequestIsRefused s now i why head question emitted after → ConnectionIsServed s now i (next.Refused f) emitted after
+refused_frame : (s : EngineModel) (now i : ℕ) (f : FrameFault) (why : Cause) (head : Bool) (question : Option MethodAndTarget) (emitted : List Effect) (after : EngineModel) → action.Refuse why head question ≡ action_of_fault f → RequestIsRefusedAndClosed s now i why head question emitted after → ConnectionRequestIsServed s now i (next.Refused f) emitted after
 refused_frame s now i frame.Truncated why head question emitted after e h = cc
 refused_frame s now i frame.Head why head question emitted after e h = refuses_same s now i why (cause.Frame frame.Head) head false question None emitted after e h
 refused_frame s now i frame.Version why head question emitted after e h = refuses_same s now i why (cause.Frame frame.Version) head false question None emitted after e h
@@ -45,15 +45,15 @@ refused_frame s now i frame.TooLarge why head question emitted after e h = refus
 refused_frame s now i frame.Expect why head question emitted after e h = refuses_same s now i why (cause.Frame frame.Expect) head false question None emitted after e h
 refused_frame s now i frame.Status why head question emitted after e h = refuses_same s now i why (cause.Frame frame.Status) head false question None emitted after e h
 
-pub refused_served : (s : EngineModel) (now i : ℕ) (a : Next Request) (why : Cause) (head : Bool) (question : Option Question) (emitted : List Effect) (after : EngineModel) → IsActionForReaderAnswer a (action.Refuse why head question) → RequestIsRefused s now i why head question emitted after → ConnectionIsServed s now i a emitted after
+pub refused_served : (s : EngineModel) (now i : ℕ) (a : Next Request) (why : Cause) (head : Bool) (question : Option MethodAndTarget) (emitted : List Effect) (after : EngineModel) → IsActionForReaderAnswer a (action.Refuse why head question) → RequestIsRefusedAndClosed s now i why head question emitted after → ConnectionRequestIsServed s now i a emitted after
 refused_served s now i next.More why head question emitted after w h = absurd w
 refused_served s now i next.NeedsContinue why head question emitted after w h = cc
 refused_served s now i (next.Message r) why head question emitted after w h =
-    (Err (record { why = why; head = head }), w.0, subst (λ (q : Option Question). RequestIsRefused s now i why head q emitted after) w.1 h)
+    (Err (record { why = why; head = head }), w.0, subst (λ (q : Option MethodAndTarget). RequestIsRefusedAndClosed s now i why head q emitted after) w.1 h)
 refused_served s now i (next.Refused f) why head question emitted after w h = refused_frame s now i f why head question emitted after w h
 refused_served s now i next.End why head question emitted after w h = cc
 
-closed_frame : (s : EngineModel) (now i : ℕ) (f : FrameFault) (emitted : List Effect) (after : EngineModel) → action.Close ≡ action_of_fault f → ConnectionIsClosed s i emitted after → ConnectionIsServed s now i (next.Refused f) emitted after
+closed_frame : (s : EngineModel) (now i : ℕ) (f : FrameFault) (emitted : List Effect) (after : EngineModel) → action.Close ≡ action_of_fault f → ConnectionIsClosedWithEffect s i emitted after → ConnectionRequestIsServed s now i (next.Refused f) emitted after
 closed_frame s now i frame.Truncated emitted after e h = h
 closed_frame s now i frame.Head emitted after e h = cc
 closed_frame s now i frame.Version emitted after e h = cc
@@ -65,7 +65,7 @@ closed_frame s now i frame.TooLarge emitted after e h = cc
 closed_frame s now i frame.Expect emitted after e h = cc
 closed_frame s now i frame.Status emitted after e h = cc
 
-pub closed_served : (s : EngineModel) (now i : ℕ) (a : Next Request) (emitted : List Effect) (after : EngineModel) → IsActionForReaderAnswer a action.Close → ConnectionIsClosed s i emitted after → ConnectionIsServed s now i a emitted after
+pub closed_served : (s : EngineModel) (now i : ℕ) (a : Next Request) (emitted : List Effect) (after : EngineModel) → IsActionForReaderAnswer a action.Close → ConnectionIsClosedWithEffect s i emitted after → ConnectionRequestIsServed s now i a emitted after
 closed_served s now i next.More emitted after w h = absurd w
 closed_served s now i next.NeedsContinue emitted after w h = cc
 closed_served s now i (next.Message r) emitted after w h = absurd w

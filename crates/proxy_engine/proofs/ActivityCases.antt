@@ -1,6 +1,6 @@
 -- What a connection does: by its open exchange, and by its link.
 use Rattle.std.proofs.Common.{◌≡◌, ℕ, refl, Bool, true, false, not, None, Some}
-use Rattle.proxy_engine.specs.Activities.{link_place_of_activity, has_exchange, forwarded_or_waiting}
+use Rattle.proxy_engine.specs.Activities.{link_place_of_activity, has_exchange, is_forwarded_if_exchange}
 use Rattle.proxy_engine.specs.declared.endpoints.activities.Activity.{Activity}
 use Rattle.proxy_engine.specs.declared.endpoints.activities.Activity.TheVariants.{Free, Forwarded, Waiting}
 
@@ -17,7 +17,7 @@ open_from (Forwarded other) place e = refl
 open_from Waiting place e = absurd (cc)
 
 -- and its request is at the origin
-pub forwarded_from : (a : Activity) (place : ℕ) → link_place_of_activity a ≡ Some place → forwarded_or_waiting a ≡ Some true
+pub forwarded_from : (a : Activity) (place : ℕ) → link_place_of_activity a ≡ Some place → is_forwarded_if_exchange a ≡ Some true
 forwarded_from Free place e = absurd (cc)
 forwarded_from (Forwarded other) place e = refl
 forwarded_from Waiting place e = absurd (cc)
@@ -28,7 +28,7 @@ waiting_from Free e l = absurd (cc)
 waiting_from (Forwarded place) e l = absurd (cc)
 waiting_from Waiting e l = refl
 
-pub waiting_by : (a : Activity) → forwarded_or_waiting a ≡ Some false → a ≡ Waiting
+pub waiting_by : (a : Activity) → is_forwarded_if_exchange a ≡ Some false → a ≡ Waiting
 waiting_by Free e = absurd (cc)
 waiting_by (Forwarded place) e = absurd (cc)
 waiting_by Waiting e = refl

@@ -3,7 +3,7 @@ use Rattle.std.proofs.Common.{◌≡◌, Bool, true, false, ℕ, Option, None, S
 use Rattle.std.specs.List.{AllByRecursion}
 use Rattle.proxy_core.specs.Leading.{is_waiting}
 use Rattle.proxy_core.specs.Outcomes.{find_exchange, fault_at_exchange, step_fault}
-use Rattle.proxy_core.specs.State.{State as CoreState, StepIsAccepted, overdue_exchange, state_after_event}
+use Rattle.proxy_core.specs.State.{State as CoreState, StepIsAccepted, exchange_after_wait_timeout, state_after_event}
 use Rattle.proxy_core.specs.Traces.{Item}
 use Rattle.proxy_core.specs.declared.core_fault.CoreFault.{CoreFault}
 use Rattle.proxy_core.specs.declared.core_fault.CoreFault.TheVariants as faults
@@ -12,8 +12,8 @@ use Rattle.proxy_core.specs.declared.event.Event.TheVariants as events
 use Rattle.proxy_core.specs.declared.open.exchange.Exchange.{Exchange}
 use Rattle.proxy_core.specs.declared.outcome.Outcome.{Outcome}
 use Rattle.proxy_core.specs.declared.outcome.Outcome.TheVariants as outcomes
-use Rattle.proxy_engine.specs.EngineModel.{EngineModel, happening_fault, fault_if_none_waits, model_after_happening}
-use Rattle.proxy_engine.specs.State.{EngineRepresents, IsFaultOfTakingHappening, IsFaultOrOutOfMemory, EnginePartsTakeHappening, engine_state}
+use Rattle.proxy_engine.specs.EngineModel.{EngineModel, happening_fault, fault_unless_exchange_waits, model_after_happening}
+use Rattle.proxy_engine.specs.State.{EngineRepresents, IsFaultOfTakingHappening, IsFaultOrOutOfMemory, EnginePartsTakeHappening, engine_state_of_parts}
 use Rattle.proxy_engine.specs.declared.endpoints.ends.Connection.{Connection}
 use Rattle.proxy_engine.specs.declared.endpoints.ends.Link.{Link}
 use Rattle.proxy_engine.specs.Executions.{core_event_of_happening, HappeningAddsItemToTrace}
@@ -46,7 +46,7 @@ table_heard s (Shuts l) = refl
 table_heard s (Fails l kind) = refl
 
 -- no fault stands of the core where none stands of the engine, and the other way round
-pub allowed_where_taken : (w : Option Exchange) (n : ℕ) → fault_if_none_waits w ≡ None → fault_at_exchange w (events.Overdue n) ≡ None
+pub allowed_where_taken : (w : Option Exchange) (n : ℕ) → fault_unless_exchange_waits w ≡ None → fault_at_exchange w (events.Overdue n) ≡ None
 allowed_where_taken None n h = absurd (cc)
 allowed_where_taken (Some x) n h = by_test (is_waiting x.stage) h
   where
@@ -54,7 +54,7 @@ allowed_where_taken (Some x) n h = by_test (is_waiting x.stage) h
     by_test true h = refl
     by_test false h = absurd (cc)
 
-pub taken_where_allowed : (w : Option Exchange) (n : ℕ) → fault_at_exchange w (events.Overdue n) ≡ None → fault_if_none_waits w ≡ None
+pub taken_where_allowed : (w : Option Exchange) (n : ℕ) → fault_at_exchange w (events.Overdue n) ≡ None → fault_unless_exchange_waits w ≡ None
 taken_where_allowed None n h = absurd (cc)
 taken_where_allowed (Some x) n h = by_test (is_waiting x.stage) h
   where
@@ -62,7 +62,7 @@ taken_where_allowed (Some x) n h = by_test (is_waiting x.stage) h
     by_test true h = refl
     by_test false h = absurd (cc)
 
-pub refused_where_not : (w : Option Exchange) (n : ℕ) (fault : CoreFault) → fault_at_exchange w (events.Overdue n) ≡ Some fault → fault_if_none_waits w ≡ Some refusals.NotWaiting
+pub refused_where_not : (w : Option Exchange) (n : ℕ) (fault : CoreFault) → fault_at_exchange w (events.Overdue n) ≡ Some fault → fault_unless_exchange_waits w ≡ Some refusals.NotWaiting
 refused_where_not None n fault h = refl
 refused_where_not (Some x) n fault h = by_test (is_waiting x.stage) h
   where
@@ -76,7 +76,7 @@ overdue_steps s n h = record { allowed = allowed_where_taken (find_exchange n s.
 
 -- what the core did, the model does
 pub overdue_taken : (s : EngineModel) (n : ℕ) (cs : List (Option Connection)) (ks : List (Option Link)) (core core1 : CoreState) (first : ℕ) (o : Outcome) → StepIsAccepted core (events.Overdue n) o core1
-    → EngineRepresents (engine_state cs ks core first) s → EnginePartsTakeHappening s (Overdues n) cs ks core1 first
+    → EngineRepresents (engine_state_of_parts cs ks core first) s → EnginePartsTakeHappening s (Overdues n) cs ks core1 first
 overdue_taken s n cs ks core core1 first o steps h =
     let ends : o ≡ outcomes.WaitsNoMore = steps.outcome_is in
     record {
@@ -94,12 +94,12 @@ overdue_taken s n cs ks core core1 first o steps h =
 
 -- what the core refused, the engine refuses
 pub overdue_refused : (s : EngineModel) (n : ℕ) (cs : List (Option Connection)) (ks : List (Option Link)) (core : CoreState) (first : ℕ) (fault : CoreFault) → step_fault core.exchanges (events.Overdue n) ≡ Some fault
-    → EngineRepresents (engine_state cs ks core first) s → IsFaultOfTakingHappening s (Overdues n) refusals.NotWaiting
+    → EngineRepresents (engine_state_of_parts cs ks core first) s → IsFaultOfTakingHappening s (Overdues n) refusals.NotWaiting
 overdue_refused s n cs ks core first fault is h =
     let here : fault_at_exchange (find_exchange n s.core.exchanges) (events.Overdue n) ≡ Some fault =
     subst (λ (k : CoreState). fault_at_exchange (find_exchange n k.exchanges) (events.Overdue n) ≡ Some fault) h.core is in
     subst (λ (o : Option EngineFault). IsFaultOrOutOfMemory o refusals.NotWaiting) (sym (refused_where_not (find_exchange n s.core.exchanges) n fault here)) refl
 
 -- what is open then
-pub overdue_leaves : (core core1 : CoreState) (n : ℕ) (o : Outcome) → StepIsAccepted core (events.Overdue n) o core1 → core1.exchanges ≡ map (overdue_exchange n) core.exchanges
+pub overdue_leaves : (core core1 : CoreState) (n : ℕ) (o : Outcome) → StepIsAccepted core (events.Overdue n) o core1 → core1.exchanges ≡ map (exchange_after_wait_timeout n) core.exchanges
 overdue_leaves core core1 n o steps = ap (λ (k : CoreState). k.exchanges) steps.leaves

@@ -10,7 +10,7 @@ use Rattle.hx_hop.specs.declared.request_view.Asked.{Asked}
 use Rattle.hx_hop.specs.Asking.{RequestIsReadAsAsked}
 use Rattle.hx_status.specs.declared.cause.Cause.{Cause}
 use Rattle.hx_status.specs.declared.cause.Cause.TheVariants as cause
-use Rattle.hx_status.specs.declared.question.Question.{Question}
+use Rattle.hx_status.specs.declared.question.MethodAndTarget.{MethodAndTarget}
 use Rattle.hx_target.specs.declared.target_fault.TargetFault.{TargetFault}
 use Rattle.proxy_core.specs.State.{State as CoreState, StepIsAccepted, state_after_event as core_after}
 use Rattle.proxy_core.specs.declared.outcome.Outcome.{Outcome}
@@ -18,12 +18,12 @@ use Rattle.proxy_core.specs.declared.event.Event.{Event}
 use Rattle.proxy_core.specs.declared.event.Event.TheVariants as events
 use Rattle.proxy_core.specs.Traces.{Item}
 use Rattle.proxy_script.specs.declared.effect_list.Effect.{Effect}
-use Rattle.proxy_engine.specs.Admitted.{Refusal, RequestIsAdmittedOrRefused, asked_on_connection}
+use Rattle.proxy_engine.specs.Admitted.{Refusal, RequestIsAdmittedOrRefused, asked_closing_if_retired}
 use Rattle.proxy_engine.specs.EngineModel.{EngineModel, connection_at, model_with_core}
-use Rattle.proxy_engine.specs.Questions.{question_of, question_with_raw_target}
+use Rattle.proxy_engine.specs.Questions.{question_of_request, question_with_raw_target}
 use Rattle.proxy_engine.specs.Due.{Act, Abandons, Finishes, Wakes, Serves, Gives, Breaks}
-use Rattle.proxy_engine.specs.Acts.{request_is_head, outcome_with_origin_address, model_after_outcome, effects_of_outcome, next_link_number, CoreIsStepped, RequestArrives, ConnectionIsServed, RequestIsRefused, ConnectionIsClosed}
-use Rattle.proxy_engine.specs.Executions.{ExecutionStep, Took, Worked, StepLeadsToModel, IsCoreEventOfAct, ActAsksCoreNothing, IsItemOfAct, StepAddsItemToTrace, HappeningAddsItemToTrace, core_event_of_happening, ActIsDoneInOneWay, StepsHaveOneTrace}
+use Rattle.proxy_engine.specs.Acts.{request_is_head, outcome_with_origin_address, model_after_outcome, effects_of_outcome, next_link_number, CoreIsStepped, RequestArrivesOrIsRefused, ConnectionRequestIsServed, RequestIsRefusedAndClosed, ConnectionIsClosedWithEffect}
+use Rattle.proxy_engine.specs.Executions.{ExecutionStep, Took, Worked, StepLeadsToModel, IsCoreEventOfAct, ActAsksCoreNothing, CoreItemIsDoneByAct, StepAddsItsItemIfAnyToTrace, HappeningAddsItemToTrace, core_event_of_happening, ActIsDoneInOneWay, StepsHaveOneTrace}
 
 -- the same effects, and the same model behind them
 abbrev Same : List Effect → List Effect → EngineModel → EngineModel → Type 0
@@ -43,16 +43,16 @@ stepped_once : (s t : EngineModel) (i : ℕ) (asked : Option Asked) (event : Eve
 stepped_once s t i asked event before emitted more v w h k =
     let outcome : h.outcome ≡ k.outcome = outcome_once s.core event h.outcome k.outcome h.core k.core h.steps k.steps in
     let core : h.core ≡ k.core = core_once s.core event h.outcome k.outcome h.core k.core h.steps k.steps in (
-      h.emitted_is ∙ (ap (λ (o : Outcome). before ++ effects_of_outcome i (next_link_number s) (option_map question_of asked) (outcome_with_origin_address s.core.table o)) outcome ∙ sym k.emitted_is),
+      h.emitted_is ∙ (ap (λ (o : Outcome). before ++ effects_of_outcome i (next_link_number s) (option_map question_of_request asked) (outcome_with_origin_address s.core.table o)) outcome ∙ sym k.emitted_is),
       h.after_is
           ∙ (ap (λ (o : Outcome). model_after_outcome i (request_is_head asked) (outcome_with_origin_address s.core.table o) (model_with_core t h.core)) outcome
           ∙ (ap (λ (c : CoreState). model_after_outcome i (request_is_head asked) (outcome_with_origin_address s.core.table k.outcome) (model_with_core t c)) core ∙ sym k.after_is)),
     )
 
-refused_once : (s : EngineModel) (now i : ℕ) (why : Cause) (head : Bool) (question : Option Question) (emitted more : List Effect) (t u : EngineModel) → RequestIsRefused s now i why head question emitted t → RequestIsRefused s now i why head question more u → Same emitted more t u
+refused_once : (s : EngineModel) (now i : ℕ) (why : Cause) (head : Bool) (question : Option MethodAndTarget) (emitted more : List Effect) (t u : EngineModel) → RequestIsRefusedAndClosed s now i why head question emitted t → RequestIsRefusedAndClosed s now i why head question more u → Same emitted more t u
 refused_once s now i why head question emitted more t u h k = (h.emitted_is ∙ sym k.emitted_is, h.after_is ∙ sym k.after_is)
 
-closed_once : (s : EngineModel) (i : ℕ) (emitted more : List Effect) (t u : EngineModel) → ConnectionIsClosed s i emitted t → ConnectionIsClosed s i more u → Same emitted more t u
+closed_once : (s : EngineModel) (i : ℕ) (emitted more : List Effect) (t u : EngineModel) → ConnectionIsClosedWithEffect s i emitted t → ConnectionIsClosedWithEffect s i more u → Same emitted more t u
 closed_once s i emitted more t u h k = (h.0 ∙ sym k.0, h.1 ∙ sym k.1)
 
 -- where a request is asked in one way
@@ -70,15 +70,15 @@ module _ (asked_once : (request : Request) (r s : Result Asked TargetFault) → 
       h.2 ∙ (ap (λ (f : TargetFault). record { why = cause.Target f; head = bytes_eq r.method (codes "HEAD") }) fault ∙ sym k.2)
 
   arrives_once : (s : EngineModel) (now i : ℕ) (r : Request) (a b : Result Asked Refusal) (emitted more : List Effect) (t u : EngineModel) → RequestIsAdmittedOrRefused r a → RequestIsAdmittedOrRefused r b →
-      RequestArrives s now i r a emitted t → RequestArrives s now i r b more u → Same emitted more t u
+      RequestArrivesOrIsRefused s now i r a emitted t → RequestArrivesOrIsRefused s now i r b more u → Same emitted more t u
   arrives_once s now i r (Ok a) (Ok b) emitted more t u p q h k =
-      stepped_once s _ i _ _ [] emitted more t u h.1 (subst (λ (x : Asked). RequestArrives s now i r (Ok x) more u) (sym (one_request r a b p q)) k).1
+      stepped_once s _ i _ _ [] emitted more t u h.1 (subst (λ (x : Asked). RequestArrivesOrIsRefused s now i r (Ok x) more u) (sym (one_request r a b p q)) k).1
   arrives_once s now i r (Ok a) (Err b) emitted more t u p q h k = not_both r a b p q
   arrives_once s now i r (Err a) (Ok b) emitted more t u p q h k = not_both r b a q p
   arrives_once s now i r (Err a) (Err b) emitted more t u p q h k =
-      refused_once s now i a.why a.head _ emitted more t u h (subst (λ (x : Refusal). RequestIsRefused s now i x.why x.head (Some (question_with_raw_target r)) more u) (sym (one_refusal r a b p q)) k)
+      refused_once s now i a.why a.head _ emitted more t u h (subst (λ (x : Refusal). RequestIsRefusedAndClosed s now i x.why x.head (Some (question_with_raw_target r)) more u) (sym (one_refusal r a b p q)) k)
 
-  served_once : (s : EngineModel) (now i : ℕ) (action : Next Request) (emitted more : List Effect) (t u : EngineModel) → ConnectionIsServed s now i action emitted t → ConnectionIsServed s now i action more u → Same emitted more t u
+  served_once : (s : EngineModel) (now i : ℕ) (action : Next Request) (emitted more : List Effect) (t u : EngineModel) → ConnectionRequestIsServed s now i action emitted t → ConnectionRequestIsServed s now i action more u → Same emitted more t u
   served_once s now i next.More emitted more t u h k = absurd h
   served_once s now i next.NeedsContinue emitted more t u h k = (h.0 ∙ sym k.0, h.1 ∙ sym k.1)
   served_once s now i (next.Message r) emitted more t u h k = arrives_once s now i r h.0 k.0 emitted more t u h.1 k.1 h.2 k.2
@@ -114,7 +114,7 @@ module _ (asked_once : (request : Request) (r s : Result Asked TargetFault) → 
   event_once s now (Serves i next.More) e f h k = absurd h
   event_once s now (Serves i next.NeedsContinue) e f h k = absurd h
   event_once s now (Serves i (next.Message r)) e f (a, (sent, read, is), h) (b, (other, again, also), k) =
-      h ∙ (ap (λ (x : Asked). events.Arrive now (i + 1) x) (is ∙ (ap (asked_on_connection (connection_at s i).retired) (one_request r sent other read again) ∙ sym also)) ∙ sym k)
+      h ∙ (ap (λ (x : Asked). events.Arrive now (i + 1) x) (is ∙ (ap (asked_closing_if_retired (connection_at s i).retired) (one_request r sent other read again) ∙ sym also)) ∙ sym k)
   event_once s now (Serves i (next.Refused fault)) e f h k = absurd h
   event_once s now (Serves i next.End) e f h k = absurd h
 
@@ -128,7 +128,7 @@ module _ (asked_once : (request : Request) (r s : Result Asked TargetFault) → 
   event_or_none {P} s now (Serves i (next.Refused fault)) e h k = absurd h
   event_or_none {P} s now (Serves i next.End) e h k = absurd h
 
-  item_once : (table : Table) (s : EngineModel) (now : ℕ) (act : Act) (i j : Item) (emitted : List Effect) (t : EngineModel) → IsItemOfAct table s now act i emitted t → IsItemOfAct table s now act j emitted t → i ≡ j
+  item_once : (table : Table) (s : EngineModel) (now : ℕ) (act : Act) (i j : Item) (emitted : List Effect) (t : EngineModel) → CoreItemIsDoneByAct table s now act i emitted t → CoreItemIsDoneByAct table s now act j emitted t → i ≡ j
   item_once table s now act i j emitted t h k =
       let event : i.event ≡ j.event = event_once s now act i.event j.event h.event_is k.event_is in
       let steps : StepIsAccepted s.core i.event j.outcome t.core = subst (λ (e : Event). StepIsAccepted s.core e j.outcome t.core) (sym event) k.steps in
@@ -142,7 +142,7 @@ module _ (asked_once : (request : Request) (r s : Result Asked TargetFault) → 
       let same : i ≡ j = ap (λ (e : Event). record { event = e; outcome = i.outcome }) (i_event ∙ sym j_event) ∙ ap (λ (o : Outcome). record { event = j.event; outcome = o }) outcome in
       is ∙ (ap (λ (k : Item). k ∷ past) same ∙ sym js)
 
-  adds_once : (table : Table) (s : EngineModel) (step : ExecutionStep) (t : EngineModel) (past trace other : List Item) → StepAddsItemToTrace table s step t past trace → StepAddsItemToTrace table s step t past other → trace ≡ other
+  adds_once : (table : Table) (s : EngineModel) (step : ExecutionStep) (t : EngineModel) (past trace other : List Item) → StepAddsItsItemIfAnyToTrace table s step t past trace → StepAddsItsItemIfAnyToTrace table s step t past other → trace ≡ other
   adds_once table s (Took h) t past trace other l m = taken_once s (core_event_of_happening h) t past trace other l m
   adds_once table s (Worked now act emitted) t past trace other (inl l) (inl m) = l.1 ∙ (ap (λ (i : Item). i ∷ past) (item_once table s now act l.0 m.0 emitted t l.2 m.2) ∙ sym m.1)
   adds_once table s (Worked now act emitted) t past trace other (inl l) (inr m) = event_or_none s now act l.0.event l.2.event_is m.1
@@ -155,7 +155,7 @@ module _ (asked_once : (request : Request) (r s : Result Asked TargetFault) → 
       let was = has_one_trace table s steps h.0 k.0 h.1 k.1 h.2 k.2 in
       let leads : StepLeadsToModel h.0 step u = subst (λ (v : EngineModel). StepLeadsToModel v step u) (sym was.0) k.3 in
       let here : t ≡ u = leads_once h.0 step t u h.3 leads in
-      let adds : StepAddsItemToTrace table h.0 step t h.1 other =
-      subst (λ (v : EngineModel). StepAddsItemToTrace table h.0 step v h.1 other) (sym here)
-      (subst (λ (past : List Item). StepAddsItemToTrace table h.0 step u past other) (sym was.1) (subst (λ (v : EngineModel). StepAddsItemToTrace table v step u k.1 other) (sym was.0) k.4)) in
+      let adds : StepAddsItsItemIfAnyToTrace table h.0 step t h.1 other =
+      subst (λ (v : EngineModel). StepAddsItsItemIfAnyToTrace table h.0 step v h.1 other) (sym here)
+      (subst (λ (past : List Item). StepAddsItsItemIfAnyToTrace table h.0 step u past other) (sym was.1) (subst (λ (v : EngineModel). StepAddsItsItemIfAnyToTrace table v step u k.1 other) (sym was.0) k.4)) in
       (here, adds_once table h.0 step t h.1 trace other h.4 adds)

@@ -10,15 +10,15 @@ use Rattle.hx_framing.specs.Progress.{progress_after_piece, progress_after_end}
 use Rattle.hx_hop.specs.declared.request_view.Asked.{Asked}
 use Rattle.hx_status.specs.declared.cause.Cause.{Cause}
 use Rattle.proxy_core.specs.declared.event.Event.{Event}
-use Rattle.hx_status.specs.declared.question.Question.{Question}
+use Rattle.hx_status.specs.declared.question.MethodAndTarget.{MethodAndTarget}
 use Rattle.proxy_script.specs.declared.effect_list.Effect.{Effect}
 use Rattle.proxy_script.specs.declared.effect_list.Effect.TheVariants as effects
 use Rattle.proxy_engine.specs.Admitted.{Refusal}
 use Rattle.proxy_engine.specs.Happenings.{Accepts, Sends, Hears, Ends, Leaves, Retires, Overdues, Shuts, Fails}
-use Rattle.proxy_engine.specs.EngineModel.{EngineModel, LinkModel, no_link, new_link_model, link_at, link_after_bytes, link_after_end, link_after_its_failure, model_with_core, with_connection}
-use Rattle.proxy_engine.specs.Questions.{question_of}
+use Rattle.proxy_engine.specs.EngineModel.{EngineModel, LinkModel, no_link, new_link_model, link_at, link_after_bytes, link_after_end, link_after_its_failure, model_with_core, with_changed_connection}
+use Rattle.proxy_engine.specs.Questions.{question_of_request}
 use Rattle.proxy_engine.specs.Due.{Abandons, Finishes, Wakes, Serves, Gives, Breaks}
-use Rattle.proxy_engine.specs.Acts.{request_is_head, OutcomeOnConnection, Replies, Forwards, Nothing, outcome_with_origin_address, effects_of_outcome, next_link_number, model_after_outcome, model_after_link_freed, link_model_dropped, CoreIsStepped, ConnectionIsServed, RequestArrives, RequestIsRefused, ConnectionIsClosed, Queues, connection_with_activity}
+use Rattle.proxy_engine.specs.Acts.{request_is_head, OutcomeOnConnection, Replies, Forwards, Nothing, outcome_with_origin_address, effects_of_outcome, next_link_number, model_after_outcome, model_after_link_freed, link_model_dropped, CoreIsStepped, ConnectionRequestIsServed, RequestArrivesOrIsRefused, RequestIsRefusedAndClosed, ConnectionIsClosedWithEffect, Queues, connection_with_activity}
 use Rattle.proxy_engine.specs.Drops.{EffectsDropNoLink, OnlyFirstEffectMayDropALink, ActHasFewEffects, EachDroppedLinkIsEmitted, HappeningsDropNoLink}
 
 -- ---- how many effects
@@ -27,7 +27,7 @@ use Rattle.proxy_engine.specs.Drops.{EffectsDropNoLink, OnlyFirstEffectMayDropAL
 abbrev IsPlain : List Effect → Type 0
 IsPlain emitted = (length emitted ≤ 2) × EffectsDropNoLink emitted
 
-on_plain : (i n : ℕ) (question : Option Question) (q : OutcomeOnConnection) → IsPlain (effects_of_outcome i n question q)
+on_plain : (i n : ℕ) (question : Option MethodAndTarget) (q : OutcomeOnConnection) → IsPlain (effects_of_outcome i n question q)
 on_plain i n question (Replies bytes about true) = (omega arith, (refl, (refl, tt)))
 on_plain i n question (Replies bytes about false) = (omega arith, (refl, tt))
 on_plain i n question (Forwards address bytes) = (omega arith, (refl, tt))
@@ -53,17 +53,17 @@ stepped_short s t i l asked event emitted after h = short_behind emitted _ l h.e
 plain_short : (s t : EngineModel) (i : ℕ) (asked : Option Asked) (event : Event) (emitted : List Effect) (after : EngineModel) → CoreIsStepped s t i asked event [] emitted after → IsShort emitted
 plain_short s t i asked event emitted after h = short_of emitted _ h.emitted_is (on_plain i (next_link_number s) _ (outcome_with_origin_address s.core.table h.outcome))
 
-refused_short : (s : EngineModel) (now i : ℕ) (why : Cause) (head : Bool) (question : Option Question) (emitted : List Effect) (after : EngineModel) → RequestIsRefused s now i why head question emitted after → IsShort emitted
+refused_short : (s : EngineModel) (now i : ℕ) (why : Cause) (head : Bool) (question : Option MethodAndTarget) (emitted : List Effect) (after : EngineModel) → RequestIsRefusedAndClosed s now i why head question emitted after → IsShort emitted
 refused_short s now i why head question emitted after h = short_of emitted _ h.emitted_is (omega arith, (refl, (refl, tt)))
 
-closed_short : (s : EngineModel) (i : ℕ) (emitted : List Effect) (after : EngineModel) → ConnectionIsClosed s i emitted after → IsShort emitted
+closed_short : (s : EngineModel) (i : ℕ) (emitted : List Effect) (after : EngineModel) → ConnectionIsClosedWithEffect s i emitted after → IsShort emitted
 closed_short s i emitted after h = short_of emitted _ h.0 (omega arith, (refl, tt))
 
-arrived_short : (s : EngineModel) (now i : ℕ) (r : Request) (judged : Result Asked Refusal) (emitted : List Effect) (after : EngineModel) → RequestArrives s now i r judged emitted after → IsShort emitted
+arrived_short : (s : EngineModel) (now i : ℕ) (r : Request) (judged : Result Asked Refusal) (emitted : List Effect) (after : EngineModel) → RequestArrivesOrIsRefused s now i r judged emitted after → IsShort emitted
 arrived_short s now i r (Ok asked) emitted after h = short_of emitted _ h.1.emitted_is (on_plain i (next_link_number s) _ (outcome_with_origin_address s.core.table h.1.outcome))
 arrived_short s now i r (Err refusal) emitted after h = refused_short s now i _ _ _ emitted after h
 
-served_short : (s : EngineModel) (now i : ℕ) (w : Next Request) (emitted : List Effect) (after : EngineModel) → ConnectionIsServed s now i w emitted after → IsShort emitted
+served_short : (s : EngineModel) (now i : ℕ) (w : Next Request) (emitted : List Effect) (after : EngineModel) → ConnectionRequestIsServed s now i w emitted after → IsShort emitted
 served_short s now i next.More emitted after h = absurd h
 served_short s now i next.NeedsContinue emitted after h = short_of emitted _ h.0 (omega arith, (refl, tt))
 served_short s now i (next.Message r) emitted after h = arrived_short s now i r h.0 emitted after h.2
@@ -127,18 +127,18 @@ stepped_emitted s k c i asked event emitted after j h d =
     by_place (dropped_set s.links k (link_model_dropped (link_at s k)) j (dropped_on i (request_is_head asked) (outcome_with_origin_address s.core.table h.outcome) (model_with_core (model_after_link_freed s k c) h.core) j (dropped_equal after _ j h.after_is d)))
   where
     by_place : (j ≡ k) ⊎ IsDropped s.links j → IsEmitted s emitted j
-    by_place (inl e) = inr (_, h.emitted_is ∙ ap (λ n. effects.Drop (s.first + n) ∷ effects_of_outcome i (next_link_number s) (option_map question_of asked) (outcome_with_origin_address s.core.table h.outcome)) (sym e))
+    by_place (inl e) = inr (_, h.emitted_is ∙ ap (λ n. effects.Drop (s.first + n) ∷ effects_of_outcome i (next_link_number s) (option_map question_of_request asked) (outcome_with_origin_address s.core.table h.outcome)) (sym e))
     by_place (inr before) = inl before
 
-plain_emitted : (s : EngineModel) (i : ℕ) (asked : Option Asked) (event : Event) (emitted : List Effect) (after : EngineModel) (j : ℕ) → CoreIsStepped s (with_connection s i (connection_with_activity Free)) i asked event [] emitted after → IsDropped after.links j → IsDropped s.links j
+plain_emitted : (s : EngineModel) (i : ℕ) (asked : Option Asked) (event : Event) (emitted : List Effect) (after : EngineModel) (j : ℕ) → CoreIsStepped s (with_changed_connection s i (connection_with_activity Free)) i asked event [] emitted after → IsDropped after.links j → IsDropped s.links j
 plain_emitted s i asked event emitted after j h d =
-    dropped_on i (request_is_head asked) (outcome_with_origin_address s.core.table h.outcome) (model_with_core (with_connection s i (connection_with_activity Free)) h.core) j (dropped_equal after _ j h.after_is d)
+    dropped_on i (request_is_head asked) (outcome_with_origin_address s.core.table h.outcome) (model_with_core (with_changed_connection s i (connection_with_activity Free)) h.core) j (dropped_equal after _ j h.after_is d)
 
-arrived_emitted : (s : EngineModel) (now i : ℕ) (r : Request) (judged : Result Asked Refusal) (emitted : List Effect) (after : EngineModel) (j : ℕ) → RequestArrives s now i r judged emitted after → IsDropped after.links j → IsDropped s.links j
+arrived_emitted : (s : EngineModel) (now i : ℕ) (r : Request) (judged : Result Asked Refusal) (emitted : List Effect) (after : EngineModel) (j : ℕ) → RequestArrivesOrIsRefused s now i r judged emitted after → IsDropped after.links j → IsDropped s.links j
 arrived_emitted s now i r (Ok asked) emitted after j h d = dropped_on i _ (outcome_with_origin_address s.core.table h.1.outcome) _ j (dropped_equal after _ j h.1.after_is d)
 arrived_emitted s now i r (Err refusal) emitted after j h d = dropped_equal after _ j h.after_is d
 
-served_emitted : (s : EngineModel) (now i : ℕ) (w : Next Request) (emitted : List Effect) (after : EngineModel) (j : ℕ) → ConnectionIsServed s now i w emitted after → IsDropped after.links j → IsDropped s.links j
+served_emitted : (s : EngineModel) (now i : ℕ) (w : Next Request) (emitted : List Effect) (after : EngineModel) (j : ℕ) → ConnectionRequestIsServed s now i w emitted after → IsDropped after.links j → IsDropped s.links j
 served_emitted s now i next.More emitted after j h d = absurd h
 served_emitted s now i next.NeedsContinue emitted after j h d = dropped_equal after _ j h.1 d
 served_emitted s now i (next.Message r) emitted after j h d = arrived_emitted s now i r h.0 emitted after j h.2 d

@@ -5,7 +5,7 @@ use Rattle.std.proofs.lemmas.List.FromFn.{length-map-range_with_len, get_or-map-
 use Rattle.std.proofs.lemmas.List.{ext_get_or}
 use Rattle.std.proofs.lemmas.Bool.{cases_lt, cases_order, cases_Bool}
 use Rattle.std.proofs.lemmas.List.{append_assoc, map-append, length-append}
-use Rattle.proxy_engine.specs.Held.{open_end_has_flag, link_failed}
+use Rattle.proxy_engine.specs.Held.{open_end_has_flag, open_link_has_failed}
 use Rattle.proxy_engine.specs.Lookahead.{lookahead_may_be_due}
 use Rattle.proxy_engine.specs.Marked.{link_may_be_due, end_if_open_at}
 use Rattle.proxy_engine.specs.ReadyList.{PlacesAscend, PlacesAreBelow}
@@ -112,7 +112,7 @@ module _ {A : Type 0} (flag : A → Bool) (at : ℕ → Option A) where
         up_to (suc last) within = let inside : last < length places = omega (arith, within) in let here = fits (get_or places last 0) (last, inside, sym (at_any places last (get_or places last 0) inside)) in omega (arith, here)
 
 -- a link that has failed may be due
-pub shown_failed : (k : Link) → link_failed k ≡ true → link_may_be_due k ≡ true
+pub shown_failed : (k : Link) → open_link_has_failed k ≡ true → link_may_be_due k ≡ true
 shown_failed k e = by_look (lookahead_may_be_due k.reader.ahead)
   where
     by_look : (b : Bool) → b || is_some k.failed ≡ true

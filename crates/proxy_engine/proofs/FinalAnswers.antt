@@ -7,24 +7,24 @@ use Rattle.hx_framing.specs.declared.messages.Response.{Response}
 use Rattle.hx_framing.specs.declared.messages.Next.{Next}
 use Rattle.hx_framing.specs.declared.messages.Next.TheVariants as next
 use Rattle.hx_framing.specs.Progress.{Progress, next_answer_of_reading}
-use Rattle.hx_framing.specs.Reading.{StreamReading, Incomplete, Continue, Over, Spelled, Faulty}
+use Rattle.hx_framing.specs.Reading.{StreamReadResult, Incomplete, Continue, Over, Spelled, Faulty}
 use Rattle.hx_framing.specs.RequestReading.{ReadsAs as ReadsRequest}
 use Rattle.hx_framing.specs.ResponseReading.{ReadsAs}
-use Rattle.hx_framing.specs.ResponseStream.{Answers, IsAnswerAfterGivenResponses}
+use Rattle.hx_framing.specs.ResponseStream.{Answers, IsReadAnswerThenEnd}
 use Rattle.hx_status.specs.declared.cause.FailKind.{FailKind}
 use Rattle.proxy_core.specs.declared.event.Event.{Event}
 use Rattle.proxy_core.specs.declared.event.Event.TheVariants as events
 use Rattle.proxy_core.specs.ReadAnswers.{ResponseWasReadFromAStream, EventIsReadFromAStream}
 use Rattle.proxy_core.specs.Traces.{Item}
 use Rattle.proxy_engine.specs.EngineModel.{EngineModel, ConnectionModel, LinkModel, connection_at, link_at}
-use Rattle.proxy_engine.specs.Due.{Act, Abandons, Finishes, Wakes, Serves, Gives, Breaks, IsDueFirst, LinkResultUnlessDropped, ConnectionActionUnlessBusy, link_result_of, accepts_no_request, due_request_action}
+use Rattle.proxy_engine.specs.Due.{Act, Abandons, Finishes, Wakes, Serves, Gives, Breaks, IsFirstDueAct, LinkResultUnlessDropped, IsDueRequestActionUnlessBusy, link_result_of_next, accepts_no_request, due_request_action}
 use Rattle.proxy_engine.specs.Executions.{Took, Worked, IsCoreEventOfAct}
 use Rattle.proxy_engine.specs.FinalAnswers.{EachDueActIsSpelledByItsStream, EachAnswerHasFinalStatus, EachAnswerWasReadFromAStream, EventHasFinalStatus, LinkSpellsAnswer, ConnectionSpellsRequest}
 use Rattle.proxy_engine.proofs.Asking.{taking_adds}
 
 -- ---- what an act is about is what a stream spells
 
-next_spelled : {M : Type 0} (m : M) (reading : StreamReading M) → next.Message m ≡ next_answer_of_reading reading → (rest : List ℕ) × (reading ≡ Spelled m rest)
+next_spelled : {M : Type 0} (m : M) (reading : StreamReadResult M) → next.Message m ≡ next_answer_of_reading reading → (rest : List ℕ) × (reading ≡ Spelled m rest)
 next_spelled m Incomplete e = absurd cc
 next_spelled m Continue e = absurd cc
 next_spelled m Over e = absurd cc
@@ -34,13 +34,13 @@ next_spelled m (Spelled n rest) e = (rest, cc)
 abbrev IsAnswer : Progress Response → Response → Type 0
 IsAnswer p r = (p.given ≡ []) × ((rest : List ℕ) × ReadsAs p.max_body p.to_head p.ended p.stream (Spelled r rest))
 
-answered : (p : Progress Response) (r : Response) (given : List Response) → p.given ≡ given → IsAnswerAfterGivenResponses p given (next.Message r) → IsAnswer p r
+answered : (p : Progress Response) (r : Response) (given : List Response) → p.given ≡ given → IsReadAnswerThenEnd p given (next.Message r) → IsAnswer p r
 answered p r [] none h =
     let is = next_spelled r h.0 h.2 in
-    (none, (is.0, subst (λ (reading : StreamReading Response). ReadsAs p.max_body p.to_head p.ended p.stream reading) is.1 h.1))
+    (none, (is.0, subst (λ (reading : StreamReadResult Response). ReadsAs p.max_body p.to_head p.ended p.stream reading) is.1 h.1))
 answered p r (g ∷ more) some h = absurd cc
 
-finished : (p : Progress Response) (r : Response) (a : Next Response) (kind : Option FailKind) → Answers p a → Some (Gives r) ≡ link_result_of a kind → IsAnswer p r
+finished : (p : Progress Response) (r : Response) (a : Next Response) (kind : Option FailKind) → Answers p a → Some (Gives r) ≡ link_result_of_next a kind → IsAnswer p r
 finished p r next.More None h e = absurd cc
 finished p r next.More (Some k) h e = absurd cc
 finished p r next.NeedsContinue kind h e = absurd cc
@@ -64,7 +64,7 @@ action_is r (next.Message m) e = cc
 action_is r (next.Refused f) e = absurd cc
 action_is r next.End e = absurd cc
 
-wanted : (c : ConnectionModel) (r : Request) (busy : Bool) → accepts_no_request c.gone c.closed c.activity ≡ busy → ConnectionActionUnlessBusy busy c (Some (next.Message r)) → ConnectionSpellsRequest c r
+wanted : (c : ConnectionModel) (r : Request) (busy : Bool) → accepts_no_request c.gone c.closed c.activity ≡ busy → IsDueRequestActionUnlessBusy busy c (Some (next.Message r)) → ConnectionSpellsRequest c r
 wanted c r true is h = absurd cc
 wanted c r false is h =
     let answer = h.1 in
@@ -74,7 +74,7 @@ wanted c r false is h =
       behind = answer.rest;
       given = answer.spells;
       rest = read.0;
-      reads = subst (λ (reading : StreamReading Request). ReadsRequest c.progress.max_body c.progress.ended c.progress.continue_sent answer.rest reading) read.1 answer.reads;
+      reads = subst (λ (reading : StreamReadResult Request). ReadsRequest c.progress.max_body c.progress.ended c.progress.continue_sent answer.rest reading) read.1 answer.reads;
     }
 
 pub acts_are_spelled : EachDueActIsSpelledByItsStream
@@ -92,7 +92,7 @@ acts_are_spelled s (Serves i next.End) due = tt
 read_of : (k : LinkModel) (r : Response) → LinkSpellsAnswer k r → ResponseWasReadFromAStream r
 read_of k r is = record { max_body = k.progress.max_body; to_head = k.progress.to_head; ended = k.progress.ended; bytes = k.progress.stream; rest = is.rest; reads = is.reads }
 
-event_read : (s : EngineModel) (now : ℕ) (act : Act) (event : Event) → IsDueFirst s (Some act) → IsCoreEventOfAct s now act event → EventIsReadFromAStream event
+event_read : (s : EngineModel) (now : ℕ) (act : Act) (event : Event) → IsFirstDueAct s (Some act) → IsCoreEventOfAct s now act event → EventIsReadFromAStream event
 event_read s now (Abandons i l) event due is = subst EventIsReadFromAStream (sym is) tt
 event_read s now (Finishes j (Gives r)) event due is = subst EventIsReadFromAStream (sym is) (read_of (link_at s j) r (acts_are_spelled s (Finishes j (Gives r)) due))
 event_read s now (Finishes j (Breaks kind)) event due is = subst EventIsReadFromAStream (sym is) tt

@@ -6,12 +6,12 @@ use Rattle.std.proofs.lemmas.Bool.{cases_lt}
 use Rattle.std.proofs.lemmas.List.{get_or-map}
 use Rattle.proxy_engine.specs.EngineModel.{ConnectionModel, no_connection}
 use Rattle.proxy_engine.specs.Due.{IsFirstAtWhich, IsGoneWhileBusy}
-use Rattle.proxy_engine.specs.State.{ListsAreRelated, ConnectionRepresents, IsFirstPlaceFoundDue, is_gone_at}
+use Rattle.proxy_engine.specs.State.{ListsAreRelated, ConnectionRepresents, IsFirstPlaceFoundDue, is_gone_if_connection}
 use Rattle.proxy_engine.specs.Activities.{link_place_of_activity, has_exchange}
 use Rattle.proxy_engine.specs.Pairing.{activity_at, activity_of_connection, activities_of_connections}
 use Rattle.proxy_engine.specs.ReadyList.{entries_below, PlacesAreBelow}
 use Rattle.proxy_engine.specs.Exhausted.{IsOpenWithFlag}
-use Rattle.proxy_engine.specs.Marked.{end_if_open_at, is_gone_with_exchange, OptionsAreRelated, PlacesAreRelated, NoOpenEndBelowHasFlag, NoOpenEndHasFlag, link_of_disconnected_exchange_at, LookaheadShowsWhatIsDue}
+use Rattle.proxy_engine.specs.Marked.{end_if_open_at, is_gone_with_exchange, OptionsAreRelated, ContentsOfPlacesAreRelated, NoOpenEndBelowHasFlag, NoOpenEndHasFlag, link_of_disconnected_exchange_at, LookaheadShowsWhatIsDue}
 use Rattle.proxy_engine.specs.declared.endpoints.activities.Activity.TheVariants.{Free}
 use Rattle.proxy_engine.specs.declared.endpoints.ends.Connection.{Connection}
 use Rattle.proxy_engine.proofs.Keeping.{listed_length, listed_at, inside}
@@ -34,7 +34,7 @@ module _ {A : Type 0} (m : BTreeMap ℕ A) (n : ℕ) where
   pub below_listed : (flag : A → Bool) (i : ℕ) → NoOpenEndBelowHasFlag flag (get nat_cmp m) i → NoOpenEndBelowHasFlag flag (end_if_open_at (entries_below m n)) i
   below_listed flag i h j x l e = h j x l (listed_some j x e)
 
-pub alike_listed : {A : Type 0} (R : A → A → Type 0) (m k : BTreeMap ℕ A) (n : ℕ) → PlacesAreRelated R (get nat_cmp m) (get nat_cmp k) → PlacesAreRelated R (end_if_open_at (entries_below m n)) (end_if_open_at (entries_below k n))
+pub alike_listed : {A : Type 0} (R : A → A → Type 0) (m k : BTreeMap ℕ A) (n : ℕ) → ContentsOfPlacesAreRelated R (get nat_cmp m) (get nat_cmp k) → ContentsOfPlacesAreRelated R (end_if_open_at (entries_below m n)) (end_if_open_at (entries_below k n))
 alike_listed {A} R m k n alike i = elim (cases_lt i n) [
   | inl within ↦ subst (λ (o : Option A). OptionsAreRelated R o (end_if_open_at (entries_below k n) i)) (sym (listed_at m n i None within)) (subst (λ (o : Option A). OptionsAreRelated R (get nat_cmp m i) o) (sym (listed_at k n i None within)) (alike i))
   | inr behind ↦
@@ -85,7 +85,7 @@ module _ (xs : List (Option Connection)) where
   lost_open None some = tt
   lost_open (Some p) some = ap has_exchange (at_place p some) ∙ (lost_link (end_if_open_at xs p.0) p.1 some.0).1
 
-  pub lost_gone : (r : Option (ℕ × Option ℕ)) → IfSome r (LostThere xs) → IfSome r (λ p. is_gone_at (end_if_open_at xs p.0) ≡ Some true)
+  pub lost_gone : (r : Option (ℕ × Option ℕ)) → IfSome r (LostThere xs) → IfSome r (λ p. is_gone_if_connection (end_if_open_at xs p.0) ≡ Some true)
   lost_gone None some = tt
   lost_gone (Some p) some = (lost_link (end_if_open_at xs p.0) p.1 some.0).0
 

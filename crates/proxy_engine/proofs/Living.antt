@@ -13,25 +13,25 @@ use Rattle.proxy_core.specs.State.{State as CoreState, StepIsAccepted, state_aft
 use Rattle.proxy_core.specs.declared.event.Event.TheVariants as events
 use Rattle.proxy_core.specs.declared.outcome.Outcome.TheVariants as outcomes
 use Rattle.proxy_engine.proofs.Asking.{overdue_steps}
-use Rattle.proxy_core.specs.Starts.{StoreAtStart, StartIsValid}
+use Rattle.proxy_core.specs.Starts.{StoreAtStart, StoreAtStartIsValid}
 use Rattle.proxy_core.specs.declared.event.Event.{Event}
 use Rattle.proxy_core.specs.Traces.{Item, initial_state as core_begun}
 use Rattle.proxy_core.proofs.Driven.{promises_of_a_driven_core}
 use Rattle.proxy_script.specs.declared.effect_list.Effect.{Effect}
-use Rattle.proxy_engine.specs.Admitted.{Refusal, RequestIsAdmittedOrRefused, asked_on_connection}
+use Rattle.proxy_engine.specs.Admitted.{Refusal, RequestIsAdmittedOrRefused, asked_closing_if_retired}
 use Rattle.proxy_engine.specs.Happenings.{HappeningModel, Accepts as Accepted, Sends, Hears, Ends, Leaves, Retires, Overdues, Shuts, Fails}
 use Rattle.proxy_engine.specs.EngineModel.{EngineModel, connection_at, model_after_happening, model_with_core}
-use Rattle.proxy_engine.specs.Questions.{question_of, request_of_event}
+use Rattle.proxy_engine.specs.Questions.{question_of_request, request_of_event}
 use Rattle.proxy_engine.specs.Due.{Act, Abandons, Finishes, Wakes, Serves, Gives, Breaks}
-use Rattle.proxy_engine.specs.Acts.{request_is_head, OutcomeOnConnection, Replies, Forwards, Nothing, outcome_with_origin_address, model_after_outcome, effects_of_outcome, next_link_number, CoreIsStepped, ActIsDone, RequestArrives, ConnectionIsServed, RequestIsRefused as IsRefused, ConnectionIsClosed as IsClosed, Queues}
+use Rattle.proxy_engine.specs.Acts.{request_is_head, OutcomeOnConnection, Replies, Forwards, Nothing, outcome_with_origin_address, model_after_outcome, effects_of_outcome, next_link_number, CoreIsStepped, ActIsDone, RequestArrivesOrIsRefused, ConnectionRequestIsServed, RequestIsRefusedAndClosed as IsRefused, ConnectionIsClosedWithEffect as IsClosed, Queues}
 use Rattle.proxy_engine.specs.State.{new_engine_model}
-use Rattle.proxy_engine.specs.Executions.{ExecutionStep, Took, Worked, StepLeadsToModel, StepsLeadToModel, connection_place_of_act, link_drop_effects_of_act, IsCoreEventOfAct, ActAsksCoreNothing, question_of_refused_act, IsItemOfAct, IsEffectsWithoutCoreStep, Continues, Refuses, Closes, core_event_of_happening, HappeningAddsItemToTrace, StepsHaveTrace, CoreStepsOfExecutionsAreGoodRuns}
+use Rattle.proxy_engine.specs.Executions.{ExecutionStep, Took, Worked, StepLeadsToModel, StepsLeadToModel, connection_place_of_act, link_drop_effects_of_act, IsCoreEventOfAct, ActAsksCoreNothing, method_and_target_of_refused_act, CoreItemIsDoneByAct, IsEffectsWithoutCoreStep, Continues, Refuses, Closes, core_event_of_happening, HappeningAddsItemToTrace, StepsHaveTrace, CoreStepsOfExecutionsAreGoodRuns}
 
 module _ (table : Table) where
   -- an act is one step of the core, or none
   abbrev Goes : EngineModel → ℕ → Act → List Effect → EngineModel → Type 0
   Goes s now act emitted after =
-      ((item : Item) × IsItemOfAct table s now act item emitted after) ⊎ ((after.core ≡ s.core) × ActAsksCoreNothing act × IsEffectsWithoutCoreStep now (connection_place_of_act s act) (question_of_refused_act act) emitted)
+      ((item : Item) × CoreItemIsDoneByAct table s now act item emitted after) ⊎ ((after.core ≡ s.core) × ActAsksCoreNothing act × IsEffectsWithoutCoreStep now (connection_place_of_act s act) (method_and_target_of_refused_act act) emitted)
 
   core_after : (i : ℕ) (to_head : Bool) (q : OutcomeOnConnection) (s : EngineModel) → (model_after_outcome i to_head q s).core ≡ s.core
   core_after i to_head (Replies bytes about close) s = refl
@@ -40,16 +40,16 @@ module _ (table : Table) where
   core_after i to_head Nothing s = refl
 
   pub step_emitted : (now : ℕ) (act : Act) (s t : EngineModel) (asked : Option Asked) (event : Event) (emitted : List Effect) (after : EngineModel) → s.core.table ≡ table → IsCoreEventOfAct s now act event → asked ≡ request_of_event s.core.exchanges event
-      → CoreIsStepped s t (connection_place_of_act s act) asked event (link_drop_effects_of_act s act) emitted after → (item : Item) × IsItemOfAct table s now act item emitted after
+      → CoreIsStepped s t (connection_place_of_act s act) asked event (link_drop_effects_of_act s act) emitted after → (item : Item) × CoreItemIsDoneByAct table s now act item emitted after
   step_emitted now act s t asked event emitted after config is asks h =
       let item : Item = record { event = event; outcome = h.outcome } in
       let core : after.core ≡ h.core = ap (λ (u : EngineModel). u.core) h.after_is ∙ core_after (connection_place_of_act s act) (request_is_head asked) (outcome_with_origin_address s.core.table h.outcome) (model_with_core t h.core) in
-      let is_emitted : IsItemOfAct table s now act item emitted after = record {
+      let is_emitted : CoreItemIsDoneByAct table s now act item emitted after = record {
         event_is = is;
         steps = subst (λ (u : CoreState). StepIsAccepted s.core event h.outcome u) (sym core) h.steps;
         emitted_is = h.emitted_is
-            ∙ (ap (λ (c : Table). link_drop_effects_of_act s act ++ effects_of_outcome (connection_place_of_act s act) (next_link_number s) (option_map question_of asked) (outcome_with_origin_address c h.outcome)) config
-            ∙ ap (λ (a : Option Asked). link_drop_effects_of_act s act ++ effects_of_outcome (connection_place_of_act s act) (next_link_number s) (option_map question_of a) (outcome_with_origin_address table h.outcome)) asks);
+            ∙ (ap (λ (c : Table). link_drop_effects_of_act s act ++ effects_of_outcome (connection_place_of_act s act) (next_link_number s) (option_map question_of_request asked) (outcome_with_origin_address c h.outcome)) config
+            ∙ ap (λ (a : Option Asked). link_drop_effects_of_act s act ++ effects_of_outcome (connection_place_of_act s act) (next_link_number s) (option_map question_of_request a) (outcome_with_origin_address table h.outcome)) asks);
       } in
       (item, is_emitted)
 
@@ -57,17 +57,17 @@ module _ (table : Table) where
       → CoreIsStepped s t (connection_place_of_act s act) asked event (link_drop_effects_of_act s act) emitted after → Goes s now act emitted after
   stepped now act s t asked event emitted after config is asks h = inl (step_emitted now act s t asked event emitted after config is asks h)
 
-  refused : (now : ℕ) (s : EngineModel) (i : ℕ) (action : Next Request) (why : Cause) (head : Bool) (emitted : List Effect) (after : EngineModel) → ActAsksCoreNothing (Serves i action) → IsRefused s now i why head (question_of_refused_act (Serves i action)) emitted after → Goes s now (Serves i action) emitted after
+  refused : (now : ℕ) (s : EngineModel) (i : ℕ) (action : Next Request) (why : Cause) (head : Bool) (emitted : List Effect) (after : EngineModel) → ActAsksCoreNothing (Serves i action) → IsRefused s now i why head (method_and_target_of_refused_act (Serves i action)) emitted after → Goes s now (Serves i action) emitted after
   refused now s i action why head emitted after none h = inr (ap (λ (u : EngineModel). u.core) h.after_is, none, Refuses why head h.emitted_is)
 
   shut : (now : ℕ) (s : EngineModel) (i : ℕ) (action : Next Request) (emitted : List Effect) (after : EngineModel) → ActAsksCoreNothing (Serves i action) → IsClosed s i emitted after → Goes s now (Serves i action) emitted after
   shut now s i action emitted after none h = inr (ap (λ (u : EngineModel). u.core) h.1, none, Closes h.0)
 
-  arrives : (now : ℕ) (s : EngineModel) (i : ℕ) (r : Request) (judged : Result Asked Refusal) (emitted : List Effect) (after : EngineModel) → s.core.table ≡ table → RequestIsAdmittedOrRefused r judged → RequestArrives s now i r judged emitted after → Goes s now (Serves i (next.Message r)) emitted after
-  arrives now s i r (Ok asked) emitted after config a h = stepped now (Serves i (next.Message r)) s _ _ _ emitted after config (asked_on_connection (connection_at s i).retired asked, (asked, a, refl), refl) refl h.1
+  arrives : (now : ℕ) (s : EngineModel) (i : ℕ) (r : Request) (judged : Result Asked Refusal) (emitted : List Effect) (after : EngineModel) → s.core.table ≡ table → RequestIsAdmittedOrRefused r judged → RequestArrivesOrIsRefused s now i r judged emitted after → Goes s now (Serves i (next.Message r)) emitted after
+  arrives now s i r (Ok asked) emitted after config a h = stepped now (Serves i (next.Message r)) s _ _ _ emitted after config (asked_closing_if_retired (connection_at s i).retired asked, (asked, a, refl), refl) refl h.1
   arrives now s i r (Err refusal) emitted after config a h = refused now s i (next.Message r) _ _ emitted after (refusal, a) h
 
-  serves : (now : ℕ) (s : EngineModel) (i : ℕ) (action : Next Request) (emitted : List Effect) (after : EngineModel) → s.core.table ≡ table → ConnectionIsServed s now i action emitted after → Goes s now (Serves i action) emitted after
+  serves : (now : ℕ) (s : EngineModel) (i : ℕ) (action : Next Request) (emitted : List Effect) (after : EngineModel) → s.core.table ≡ table → ConnectionRequestIsServed s now i action emitted after → Goes s now (Serves i action) emitted after
   serves now s i next.More emitted after config h = absurd h
   serves now s i next.NeedsContinue emitted after config h = inr (ap (λ (u : EngineModel). u.core) h.1, tt, Continues h.0)
   serves now s i (next.Message r) emitted after config h = arrives now s i r h.0 emitted after config h.1 h.2
@@ -151,7 +151,7 @@ module _ (table : Table) (start : StoreAtStart) (first : ℕ) (begin : EngineMod
   step_on steps (Took h) s t l run = taken steps h s t l run
   step_on steps (Worked now act emitted) s t l run = worked steps now act emitted s t l run (acts table now act s emitted t run.config l.1)
 
-  pub executes : StartIsValid (bounds_of table start.limit) (Some first) start.entries → begin.core ≡ core_begun table start first → (steps : List ExecutionStep) (t : EngineModel) → StepsLeadToModel begin steps t → Runs steps t
+  pub executes : StoreAtStartIsValid (bounds_of table start.limit) (Some first) start.entries → begin.core ≡ core_begun table start first → (steps : List ExecutionStep) (t : EngineModel) → StepsLeadToModel begin steps t → Runs steps t
   executes stands e [] t h =
       let core : t.core ≡ core_begun table start first = ap (λ (u : EngineModel). u.core) h ∙ e in
       record { trace = []; has_run = (core, stands); config = ap (λ (u : CoreState). u.table) core; has_trace = (h, refl) }

@@ -6,7 +6,7 @@ use Rattle.std.proofs.lemmas.List.Sums.{sum_by-set, sum_by_push}
 use Rattle.std.proofs.Math.ListN.{get_or-append}
 use Rattle.std.proofs.Math.Seq.{get_or-append_seam}
 use Rattle.proxy_engine.specs.ReadyList.{ReadyPlaces, PlacesAscend}
-use Rattle.proxy_engine.specs.Marked.{EndList, end_if_open_at, open_end_count, is_gone_with_exchange, DisconnectedExchangesAreMarked, ConnectionAfterLookahead, PlacesAreRelated}
+use Rattle.proxy_engine.specs.Marked.{EndList, end_if_open_at, open_end_count, is_gone_with_exchange, DisconnectedExchangesAreMarked, LookingAheadKeepsConnection, ContentsOfPlacesAreRelated}
 use Rattle.proxy_engine.specs.declared.endpoints.ends.Connection.{Connection}
 use Rattle.proxy_engine.proofs.Rising.{rises_none}
 use Rattle.proxy_engine.proofs.Keeping.{inside, one_if_some}
@@ -97,7 +97,7 @@ module _ (e : EndList Connection) (old new : ReadyPlaces) (h : DisconnectedExcha
       }
 
 -- a look, or room for bytes
-pub lost_looked : (R : Connection → Connection → Type 0) (e f : EndList Connection) (kept : ReadyPlaces) → ((x y : Connection) → R x y → ConnectionAfterLookahead x y) → DisconnectedExchangesAreMarked e kept → PlacesAreRelated R (end_if_open_at e.items) (end_if_open_at f.items) → length f.items ≡ length e.items → f.has_room ≡ e.has_room
+pub lost_looked : (R : Connection → Connection → Type 0) (e f : EndList Connection) (kept : ReadyPlaces) → ((x y : Connection) → R x y → LookingAheadKeepsConnection x y) → DisconnectedExchangesAreMarked e kept → ContentsOfPlacesAreRelated R (end_if_open_at e.items) (end_if_open_at f.items) → length f.items ≡ length e.items → f.has_room ≡ e.has_room
     → DisconnectedExchangesAreMarked f kept
 lost_looked R e f kept looks h alike count has =
     let fewer : open_end_count f.items ≤ open_end_count e.items = sum_alike R one_if_some (λ x y r. omega arith) e.items f.items count alike in record {

@@ -15,10 +15,10 @@ use Rattle.proxy_engine.specs.declared.endpoints.lookahead.Lookahead.{Lookahead}
 use Rattle.proxy_engine.specs.declared.endpoints.lookahead.Lookahead.TheVariants.{Unknown, Quiet, Due}
 use Rattle.proxy_engine.specs.Lookahead.{LookaheadShowsAnswer, lookahead_is_due, lookahead_may_be_due}
 use Rattle.proxy_engine.specs.EngineModel.{ConnectionModel, LinkModel}
-use Rattle.proxy_engine.specs.Due.{Breaks, IsGoneWhileBusy, IsDueOnLink, IsDueOnConnection, ConnectionActionUnlessBusy, LinkResultUnlessDropped, accepts_no_request}
-use Rattle.proxy_engine.specs.State.{ConnectionRepresents, LinkRepresents, due_request_seen}
+use Rattle.proxy_engine.specs.Due.{Breaks, IsGoneWhileBusy, IsDueLinkResult, IsDueOnConnection, IsDueRequestActionUnlessBusy, LinkResultUnlessDropped, accepts_no_request}
+use Rattle.proxy_engine.specs.State.{ConnectionRepresents, LinkRepresents, due_request_of_lookahead}
 use Rattle.proxy_engine.specs.ReadyList.{ReadyPlaces, PlacesAscend, PlacesAreBelow, PlaceIsLeast, FlaggedPlacesAreMarked}
-use Rattle.proxy_engine.specs.Marked.{EndList, end_if_open_at, open_end_count, ConnectionAfterLookahead, is_gone_with_exchange, connection_may_be_due, link_may_be_due, OptionsAreRelated, PlacesAreRelated, NoOpenEndBelowHasFlag, NoOpenEndHasFlag, NoEndIsOpenBeyond, link_of_disconnected_exchange_at}
+use Rattle.proxy_engine.specs.Marked.{EndList, end_if_open_at, open_end_count, LookingAheadKeepsConnection, is_gone_with_exchange, connection_may_be_due, link_may_be_due, OptionsAreRelated, ContentsOfPlacesAreRelated, NoOpenEndBelowHasFlag, NoOpenEndHasFlag, NoEndIsOpenBeyond, link_of_disconnected_exchange_at}
 use Rattle.proxy_engine.specs.declared.endpoints.activities.Activity.{Activity}
 use Rattle.proxy_engine.specs.declared.endpoints.ends.Connection.{Connection}
 use Rattle.proxy_engine.specs.declared.endpoints.ends.Link.{Link}
@@ -58,7 +58,7 @@ pub same_at : {A : Type 0} (m k : BTreeMap ℕ A) → k.entries ≡ m.entries �
 same_at {A} m k same q = ap (λ (es : List (ℕ × A)). lookup (is_at (nat_cmp q)) es) same
 
 -- what is open stays so
-pub alike_some : {A : Type 0} (R : A → A → Type 0) (m k : ℕ → Option A) → PlacesAreRelated R m k → (i : ℕ) → is_some (m i) ≡ true → is_some (k i) ≡ true
+pub alike_some : {A : Type 0} (R : A → A → Type 0) (m k : ℕ → Option A) → ContentsOfPlacesAreRelated R m k → (i : ℕ) → is_some (m i) ≡ true → is_some (k i) ≡ true
 alike_some {A} R m k alike i e = by_new (m i) (k i) (alike i) e
   where
     by_new : (o p : Option A) → OptionsAreRelated R o p → is_some o ≡ true → is_some p ≡ true
@@ -151,7 +151,7 @@ module _ {A : Type 0} (flag : A → Bool) where
   }
 
   -- a look at each place leaves the flags
-  pub marked_alike : (R : A → A → Type 0) (m k : ℕ → Option A) (a b : ℕ) (kept : ReadyPlaces) → ((x y : A) → R x y → flag y ≡ true → flag x ≡ true) → FlaggedPlacesAreMarked flag m a kept → PlacesAreRelated R m k → b ≤ a → FlaggedPlacesAreMarked flag k b kept
+  pub marked_alike : (R : A → A → Type 0) (m k : ℕ → Option A) (a b : ℕ) (kept : ReadyPlaces) → ((x y : A) → R x y → flag y ≡ true → flag x ≡ true) → FlaggedPlacesAreMarked flag m a kept → ContentsOfPlacesAreRelated R m k → b ≤ a → FlaggedPlacesAreMarked flag k b kept
   marked_alike R m k a b kept keep h alike size = record {
     marked = λ j y e f. by_old j y (m j) refl (subst (λ (o : Option A). OptionsAreRelated R (m j) o) e (alike j)) f;
     filled = λ j c. alike_some R m k alike j (h.filled j c);
@@ -164,7 +164,7 @@ module _ {A : Type 0} (flag : A → Bool) where
       by_old j y (Some x) e r f = h.marked j x e (keep x y (subst (λ (p : Option A). OptionsAreRelated R p (Some y)) e r) f)
 
   -- a look at the least place
-  pub marked_look : (R : A → A → Type 0) (m k : ℕ → Option A) (a b : ℕ) (kept : ReadyPlaces) (i : ℕ) → FlaggedPlacesAreMarked flag m a kept → PlaceIsLeast kept.places i → ((q : ℕ) → q ≢ i → k q ≡ m q) → PlacesAreRelated R m k → b ≡ a → FlaggedPlacesAreMarked flag k b kept
+  pub marked_look : (R : A → A → Type 0) (m k : ℕ → Option A) (a b : ℕ) (kept : ReadyPlaces) (i : ℕ) → FlaggedPlacesAreMarked flag m a kept → PlaceIsLeast kept.places i → ((q : ℕ) → q ≢ i → k q ≡ m q) → ContentsOfPlacesAreRelated R m k → b ≡ a → FlaggedPlacesAreMarked flag k b kept
   marked_look R m k a b kept i h first others alike size =
       marked_by m k a b kept kept i h others (omega (arith, h.room, size)) h.rises (λ q other c. c) (λ q other c. c) (λ x e f. least_there kept.places i first) (λ c. alike_some R m k alike i (h.filled i c))
 
@@ -209,7 +209,7 @@ pub same_list : {A : Type 0} (xs ys : List (Option A)) (a b : Bool) → xs ≡ y
 same_list {A} xs ys a b e f = ap {B = EndList A} (λ (zs : List (Option A)). record { items = zs; has_room = a }) e ∙ ap {B = EndList A} (λ (c : Bool). record { items = ys; has_room = c }) f
 
 -- a look leaves what may be lost
-pub looked_lost : (x y : Connection) → ConnectionAfterLookahead x y → is_gone_with_exchange y ≡ true → is_gone_with_exchange x ≡ true
+pub looked_lost : (x y : Connection) → LookingAheadKeepsConnection x y → is_gone_with_exchange y ≡ true → is_gone_with_exchange x ≡ true
 looked_lost x y r f = sym (ap (λ (b : Bool). b && has_exchange y.activity) r.gone ∙ ap (λ (a : Activity). x.gone && has_exchange a) r.activity) ∙ f
 
 -- ---- nothing is beyond the count
@@ -222,7 +222,7 @@ module _ {A : Type 0} (m k : ℕ → Option A) (n : ℕ) (h : NoEndIsOpenBeyond 
     | inr other ↦ h q (sym (ap is_some (same q other)) ∙ there)
   ]
 
-  pub none_alike : (R : A → A → Type 0) → PlacesAreRelated R m k → NoEndIsOpenBeyond n k
+  pub none_alike : (R : A → A → Type 0) → ContentsOfPlacesAreRelated R m k → NoEndIsOpenBeyond n k
   none_alike R alike q there = h q (by_old (m q) (k q) (alike q) there)
     where
       by_old : (o p : Option A) → OptionsAreRelated R o p → is_some p ≡ true → is_some o ≡ true
@@ -234,7 +234,7 @@ pub none_beyond_more : {A : Type 0} (m : ℕ → Option A) (n : ℕ) → NoEndIs
 none_beyond_more m n h q there = let most = h q there in omega (arith, most)
 
 -- one look after another
-pub alike_trans : {A : Type 0} (R : A → A → Type 0) → ((x y z : A) → R x y → R y z → R x z) → (m k l : ℕ → Option A) → PlacesAreRelated R m k → PlacesAreRelated R k l → PlacesAreRelated R m l
+pub alike_trans : {A : Type 0} (R : A → A → Type 0) → ((x y z : A) → R x y → R y z → R x z) → (m k l : ℕ → Option A) → ContentsOfPlacesAreRelated R m k → ContentsOfPlacesAreRelated R k l → ContentsOfPlacesAreRelated R m l
 alike_trans {A} R trans m k l first second i = by_each (m i) (k i) (l i) (first i) (second i)
   where
     by_each : (o p q : Option A) → OptionsAreRelated R o p → OptionsAreRelated R p q → OptionsAreRelated R o q
@@ -245,7 +245,7 @@ alike_trans {A} R trans m k l first second i = by_each (m i) (k i) (l i) (first 
     by_each (Some x) (Some y) None r s = absurd s
     by_each (Some x) (Some y) (Some z) r s = trans x y z r s
 
-pub alike_refl : {A : Type 0} (R : A → A → Type 0) → ((x : A) → R x x) → (m : ℕ → Option A) → PlacesAreRelated R m m
+pub alike_refl : {A : Type 0} (R : A → A → Type 0) → ((x : A) → R x x) → (m : ℕ → Option A) → ContentsOfPlacesAreRelated R m m
 alike_refl {A} R same m i = by_each (m i)
   where
     by_each : (o : Option A) → OptionsAreRelated R o o
@@ -253,7 +253,7 @@ alike_refl {A} R same m i = by_each (m i)
     by_each (Some x) = same x
 
 -- a look at one place
-pub alike_at : {A : Type 0} (R : A → A → Type 0) → ((x : A) → R x x) → (m k : ℕ → Option A) (i : ℕ) → OptionsAreRelated R (m i) (k i) → ((q : ℕ) → q ≢ i → k q ≡ m q) → PlacesAreRelated R m k
+pub alike_at : {A : Type 0} (R : A → A → Type 0) → ((x : A) → R x x) → (m k : ℕ → Option A) (i : ℕ) → OptionsAreRelated R (m i) (k i) → ((q : ℕ) → q ≢ i → k q ≡ m q) → ContentsOfPlacesAreRelated R m k
 alike_at {A} R same m k i here others j = elim (cases_eq j i) [
   | inl is ↦ subst (λ (p : ℕ). OptionsAreRelated R (m p) (k p)) (sym is) here
   | inr other ↦ subst (λ (o : Option A). OptionsAreRelated R (m j) o) (sym (others j other)) (alike_refl R same m j)
@@ -291,31 +291,31 @@ pub unwanted : (c : Connection) (s : ConnectionModel) → connection_may_be_due 
 unwanted c s e h = by_busy (accepts_no_request c.gone false c.activity) refl e
   where
     by_busy : (b : Bool) → accepts_no_request c.gone false c.activity ≡ b → not b && lookahead_may_be_due c.reader.ahead ≡ false → IsDueOnConnection s None
-    by_busy true busy e = subst (λ o. IsDueOnConnection s o) (ap (λ (b : Bool). cond b None (due_request_seen c.reader.ahead)) busy) (wanted_busy c s busy h)
+    by_busy true busy e = subst (λ o. IsDueOnConnection s o) (ap (λ (b : Bool). cond b None (due_request_of_lookahead c.reader.ahead)) busy) (wanted_busy c s busy h)
     by_busy false idle e =
         let shows = quiet_shows c.reader.ahead e in
-        subst (λ o. IsDueOnConnection s o) (ap (λ (b : Bool). cond b None (due_request_seen c.reader.ahead)) idle ∙ action_of_fault c.reader.ahead next.More shows) (wanted c s next.More idle h shows)
+        subst (λ o. IsDueOnConnection s o) (ap (λ (b : Bool). cond b None (due_request_of_lookahead c.reader.ahead)) idle ∙ action_of_fault c.reader.ahead next.More shows) (wanted c s next.More idle h shows)
 
 pub unwanted_over : (s : ConnectionModel) → ConnectionRepresents None s → IsDueOnConnection s None
-unwanted_over s h = subst (λ (b : Bool). ConnectionActionUnlessBusy b s None) (sym (by_over s.gone s.closed h.0)) refl
+unwanted_over s h = subst (λ (b : Bool). IsDueRequestActionUnlessBusy b s None) (sym (by_over s.gone s.closed h.0)) refl
   where
     by_over : (gone closed : Bool) → gone || closed ≡ true → accepts_no_request gone closed s.activity ≡ true
     by_over true closed e = refl
     by_over false true e = refl
     by_over false false e = absurd (cc)
 
-pub no_finish_due : (k : Link) (s : LinkModel) → link_may_be_due k ≡ false → LinkRepresents (Some k) s → IsDueOnLink s None
+pub no_finish_due : (k : Link) (s : LinkModel) → link_may_be_due k ≡ false → LinkRepresents (Some k) s → IsDueLinkResult s None
 no_finish_due k s e h =
     let none = no_failure (lookahead_may_be_due k.reader.ahead) k.failed e in
     let shows = quiet_shows k.reader.ahead none.0 in
-    subst (λ o. IsDueOnLink s o) (finish_by k.reader.ahead k.failed next.More shows ∙ none.1) (finish_due k s next.More h shows)
+    subst (λ o. IsDueLinkResult s o) (finish_by k.reader.ahead k.failed next.More shows ∙ none.1) (finish_due k s next.More h shows)
   where
     no_failure : (quiet : Bool) (o : Option FailKind) → quiet || is_some o ≡ false → (quiet ≡ false) × (option_map Breaks o ≡ None)
     no_failure true o e = absurd cc
     no_failure false None e = (refl, refl)
     no_failure false (Some kind) e = absurd cc
 
-pub no_finish_due_over : (s : LinkModel) → LinkRepresents None s → IsDueOnLink s None
+pub no_finish_due_over : (s : LinkModel) → LinkRepresents None s → IsDueLinkResult s None
 no_finish_due_over s h = subst (λ (b : Bool). LinkResultUnlessDropped b s None) (sym h) refl
 
 -- the link that was read of a gone connection

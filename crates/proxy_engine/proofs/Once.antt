@@ -6,7 +6,7 @@ use Rattle.hx_framing.specs.declared.messages.Next.{Next}
 use Rattle.hx_framing.proofs.RequestOnce.{answered_once_lem as requests_once}
 use Rattle.hx_framing.proofs.ResponseOnce.{answered_once_lem as responses_once}
 use Rattle.proxy_engine.specs.EngineModel.{EngineModel, ConnectionModel, LinkModel, no_connection, no_link}
-use Rattle.proxy_engine.specs.Due.{Act, Abandons, Finishes, Wakes, Serves, LinkResult, IsFirstAtWhich, IsDueFirst, IsGoneWhileBusy, IsDueOnLink, LinkResultUnlessDropped, IsDueOnConnection, ConnectionActionUnlessBusy, due_request_action, link_result_of, accepts_no_request}
+use Rattle.proxy_engine.specs.Due.{Act, Abandons, Finishes, Wakes, Serves, LinkResult, IsFirstAtWhich, IsFirstDueAct, IsGoneWhileBusy, IsDueLinkResult, LinkResultUnlessDropped, IsDueOnConnection, IsDueRequestActionUnlessBusy, due_request_action, link_result_of_next, accepts_no_request}
 
 none_some : {B : Type 0} {b : B} {C : Type 0} → ◌≡◌ {A = Option B} None (Some b) → C
 none_some h = cc
@@ -33,12 +33,12 @@ lost_once x o p h k = h ∙ sym k
 
 finish_due_by : (b : Bool) (x : LinkModel) (o p : Option LinkResult) → LinkResultUnlessDropped b x o → LinkResultUnlessDropped b x p → o ≡ p
 finish_due_by true x o p h k = h ∙ sym k
-finish_due_by false x o p h k = h.2 ∙ (ap (λ a. link_result_of a x.failed) (responses_once x.progress h.0 k.0 h.1 k.1) ∙ sym k.2)
+finish_due_by false x o p h k = h.2 ∙ (ap (λ a. link_result_of_next a x.failed) (responses_once x.progress h.0 k.0 h.1 k.1) ∙ sym k.2)
 
-pub finish_due_once : (x : LinkModel) (o p : Option LinkResult) → IsDueOnLink x o → IsDueOnLink x p → o ≡ p
+pub finish_due_once : (x : LinkModel) (o p : Option LinkResult) → IsDueLinkResult x o → IsDueLinkResult x p → o ≡ p
 finish_due_once x o p h k = finish_due_by x.dropped x o p h k
 
-wanted_by : (b : Bool) (x : ConnectionModel) (o p : Option (Next Request)) → ConnectionActionUnlessBusy b x o → ConnectionActionUnlessBusy b x p → o ≡ p
+wanted_by : (b : Bool) (x : ConnectionModel) (o p : Option (Next Request)) → IsDueRequestActionUnlessBusy b x o → IsDueRequestActionUnlessBusy b x p → o ≡ p
 wanted_by true x o p h k = h ∙ sym k
 wanted_by false x o p h k = h.2 ∙ (ap due_request_action (requests_once x.progress h.0 k.0 h.1 k.1) ∙ sym k.2)
 
@@ -48,13 +48,13 @@ wanted_once x o p h k = wanted_by (accepts_no_request x.gone x.closed x.activity
 pub lost_same : (s : EngineModel) (a b : Option (ℕ × Option ℕ)) → IsFirstAtWhich IsGoneWhileBusy no_connection s.connections a → IsFirstAtWhich IsGoneWhileBusy no_connection s.connections b → a ≡ b
 lost_same s a b h k = first_once IsGoneWhileBusy no_connection s.connections a b lost_once h k
 
-pub finish_due_same : (s : EngineModel) (a b : Option (ℕ × LinkResult)) → IsFirstAtWhich IsDueOnLink no_link s.links a → IsFirstAtWhich IsDueOnLink no_link s.links b → a ≡ b
-finish_due_same s a b h k = first_once IsDueOnLink no_link s.links a b finish_due_once h k
+pub finish_due_same : (s : EngineModel) (a b : Option (ℕ × LinkResult)) → IsFirstAtWhich IsDueLinkResult no_link s.links a → IsFirstAtWhich IsDueLinkResult no_link s.links b → a ≡ b
+finish_due_same s a b h k = first_once IsDueLinkResult no_link s.links a b finish_due_once h k
 
 wanted_same : (s : EngineModel) (a b : Option (ℕ × Next Request)) → IsFirstAtWhich IsDueOnConnection no_connection s.connections a → IsFirstAtWhich IsDueOnConnection no_connection s.connections b → a ≡ b
 wanted_same s a b h k = first_once IsDueOnConnection no_connection s.connections a b wanted_once h k
 
-pub due_first_once : (s : EngineModel) (a b : Option Act) → IsDueFirst s a → IsDueFirst s b → a ≡ b
+pub due_first_once : (s : EngineModel) (a b : Option Act) → IsFirstDueAct s a → IsFirstDueAct s b → a ≡ b
 due_first_once s None None h k = refl
 due_first_once s None (Some (Abandons i l)) h k = none_some (lost_same s None (Some (i, l)) h.0 k)
 due_first_once s None (Some (Finishes j f)) h k = none_some (finish_due_same s None (Some (j, f)) h.1 k.1)

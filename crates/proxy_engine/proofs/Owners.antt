@@ -4,7 +4,7 @@ use Rattle.proxy_core.specs.State.{State as CoreState}
 use Rattle.proxy_engine.specs.ConnectionNumbers.{link_place}
 use Rattle.proxy_engine.specs.EngineModel.{EngineModel, link_at}
 use Rattle.proxy_engine.specs.Pairing.{ConnectionsAndLinksOfStateArePaired, owner_of_open_link, owner_of_link_number}
-use Rattle.proxy_engine.specs.Reading.{owner_place_of_link_model, owner_of_number, line_of_owners_exchange, line_of_link}
+use Rattle.proxy_engine.specs.Reading.{owner_place_of_link_model, owner_of_link_with_number, line_of_owners_exchange, line_of_link}
 use Rattle.proxy_engine.specs.State.{State, EngineRepresents}
 use Rattle.proxy_engine.specs.declared.endpoints.ends.Link.{Link}
 use Rattle.proxy_engine.proofs.Pairs.{owned_link, within_connections}
@@ -28,12 +28,12 @@ owner_is_there e l i paired owns = by_first (nat_le e.first l) refl owns
     by_first true is o = by_link (get_or e.links j None) refl o
 
 -- the client that is kept of a link is that of each model
-pub owner_of_model : (e : State) (s : EngineModel) (l : ℕ) → EngineRepresents e s → owner_of_link_number e l ≡ owner_of_number s l
-owner_of_model e s l h =
+pub owner_of_link_model : (e : State) (s : EngineModel) (l : ℕ) → EngineRepresents e s → owner_of_link_number e l ≡ owner_of_link_with_number s l
+owner_of_link_model e s l h =
     ap (λ f. cond (nat_le f l) (owner_of_open_link (get_or e.links (link_place f l) None)) None) h.first
     ∙ ap (λ (o : Option ℕ). cond (nat_le s.first l) o None) (owner_read_at e.links s.links h.links (link_place s.first l))
 
 pub line_of_model : (e : State) (s : EngineModel) (l : ℕ) → EngineRepresents e s → line_of_owners_exchange e.core.exchanges (owner_of_link_number e l) ≡ line_of_link s l
 line_of_model e s l h =
-    ap (line_of_owners_exchange e.core.exchanges) (owner_of_model e s l h)
-    ∙ ap (λ (c : CoreState). line_of_owners_exchange c.exchanges (owner_of_number s l)) h.core
+    ap (line_of_owners_exchange e.core.exchanges) (owner_of_link_model e s l h)
+    ∙ ap (λ (c : CoreState). line_of_owners_exchange c.exchanges (owner_of_link_with_number s l)) h.core

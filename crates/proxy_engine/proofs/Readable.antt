@@ -12,15 +12,15 @@ use Rattle.std.proofs.lemmas.Bool.{cases_eq, cases_order}
 use Rattle.hx_status.specs.declared.cause.FailKind.{FailKind}
 use Rattle.proxy_core.specs.State.{State as CoreState}
 use Rattle.proxy_engine.specs.Activities.{has_exchange}
-use Rattle.proxy_engine.specs.EngineModel.{EngineModel, ConnectionModel, LinkModel, no_connection, no_link, link_accepts_bytes}
-use Rattle.proxy_engine.specs.State.{State, ListsAreRelated, ConnectionRepresents, LinkRepresents, EngineRepresents, engine_state}
+use Rattle.proxy_engine.specs.EngineModel.{EngineModel, ConnectionModel, LinkModel, no_connection, no_link, link_accepts_input}
+use Rattle.proxy_engine.specs.State.{State, ListsAreRelated, ConnectionRepresents, LinkRepresents, EngineRepresents, engine_state_of_parts}
 use Rattle.proxy_engine.specs.Happenings.{model_of_happening}
 use Rattle.proxy_engine.specs.Room.{HappeningFindsMemory}
 use Rattle.proxy_script.specs.declared.happening.Happening.{Happening}
 use Rattle.proxy_engine.specs.ReadyList.{entries_below}
-use Rattle.proxy_engine.specs.Held.{flagged_places, open_end_has_flag, connection_is_not_gone, connection_may_send, link_failed, link_may_send}
+use Rattle.proxy_engine.specs.Held.{flagged_places, open_end_has_flag, connection_is_not_gone, client_of_connection_may_send, open_link_has_failed, link_may_send}
 use Rattle.proxy_engine.specs.Pairing.{activity_of_connection, owner_of_open_link}
-use Rattle.proxy_engine.specs.Reading.{places_with_flag, connection_is_open_in_model, connection_may_send_request, link_has_failed, link_end_at, owner_place_of_link_model}
+use Rattle.proxy_engine.specs.Reading.{places_with_flag, connection_is_open_in_model, connection_may_send_request, open_link_model_has_failed, link_end_at, owner_place_of_link_model}
 use Rattle.proxy_engine.specs.declared.endpoints.activities.Activity.{Activity}
 use Rattle.proxy_engine.specs.declared.endpoints.ends.Connection.{Connection}
 use Rattle.proxy_engine.specs.declared.endpoints.ends.Link.{Link}
@@ -128,7 +128,7 @@ open_same (Some c) s h = by_gone c.gone s.gone s.closed h.gone h.still
     by_gone false true closed e still = absurd cc
     by_gone false false closed e still = sym (ap not still)
 
-read_same : (o : Option Connection) (s : ConnectionModel) → ConnectionRepresents o s → open_end_has_flag connection_may_send o ≡ connection_may_send_request s
+read_same : (o : Option Connection) (s : ConnectionModel) → ConnectionRepresents o s → open_end_has_flag client_of_connection_may_send o ≡ connection_may_send_request s
 read_same None s h = over s.gone s.closed s.progress.ended (has_exchange s.activity) h.0
   where
     over : (gone closed ended linked : Bool) → gone || closed ≡ true → false ≡ not (gone || (closed || ended)) && not linked
@@ -147,11 +147,11 @@ read_same (Some c) s h =
     here false false true linked e = refl
     here false false false linked e = refl
 
-failed_same : (o : Option Link) (s : LinkModel) → LinkRepresents o s → open_end_has_flag link_failed o ≡ link_has_failed s
+failed_same : (o : Option Link) (s : LinkModel) → LinkRepresents o s → open_end_has_flag open_link_has_failed o ≡ open_link_model_has_failed s
 failed_same None s h = sym (ap (λ (b : Bool). not b && is_some s.failed) h)
 failed_same (Some k) s h = ap (λ (o : Option FailKind). is_some o) h.failed ∙ sym (ap (λ (b : Bool). not b && is_some s.failed) h.still)
 
-answer_same : (o : Option Link) (s : LinkModel) → LinkRepresents o s → open_end_has_flag link_may_send o ≡ link_accepts_bytes s
+answer_same : (o : Option Link) (s : LinkModel) → LinkRepresents o s → open_end_has_flag link_may_send o ≡ link_accepts_input s
 answer_same None s h = sym (ap (λ (b : Bool). not (b || (is_some s.failed || s.progress.ended))) h)
 answer_same (Some k) s h =
     ap (λ (o : Option FailKind). not (is_some o) && not k.ended) h.failed
@@ -167,15 +167,15 @@ module _ (xs : List (Option Connection)) (ss : List ConnectionModel) (both : Lis
   pub open_places : places_with_flag (open_end_has_flag connection_is_not_gone) 0 xs ≡ places_with_flag connection_is_open_in_model 0 ss
   open_places = both_places ConnectionRepresents (open_end_has_flag connection_is_not_gone) connection_is_open_in_model open_same xs ss both 0
 
-  pub read_places : places_with_flag (open_end_has_flag connection_may_send) 0 xs ≡ places_with_flag connection_may_send_request 0 ss
-  read_places = both_places ConnectionRepresents (open_end_has_flag connection_may_send) connection_may_send_request read_same xs ss both 0
+  pub read_places : places_with_flag (open_end_has_flag client_of_connection_may_send) 0 xs ≡ places_with_flag connection_may_send_request 0 ss
+  read_places = both_places ConnectionRepresents (open_end_has_flag client_of_connection_may_send) connection_may_send_request read_same xs ss both 0
 
 module _ (xs : List (Option Link)) (ss : List LinkModel) (both : ListsAreRelated LinkRepresents xs ss) where
-  pub failed_places : places_with_flag (open_end_has_flag link_failed) 0 xs ≡ places_with_flag link_has_failed 0 ss
-  failed_places = both_places LinkRepresents (open_end_has_flag link_failed) link_has_failed failed_same xs ss both 0
+  pub failed_places : places_with_flag (open_end_has_flag open_link_has_failed) 0 xs ≡ places_with_flag open_link_model_has_failed 0 ss
+  failed_places = both_places LinkRepresents (open_end_has_flag open_link_has_failed) open_link_model_has_failed failed_same xs ss both 0
 
-  pub answer_places : places_with_flag (open_end_has_flag link_may_send) 0 xs ≡ places_with_flag link_accepts_bytes 0 ss
-  answer_places = both_places LinkRepresents (open_end_has_flag link_may_send) link_accepts_bytes answer_same xs ss both 0
+  pub answer_places : places_with_flag (open_end_has_flag link_may_send) 0 xs ≡ places_with_flag link_accepts_input 0 ss
+  answer_places = both_places LinkRepresents (open_end_has_flag link_may_send) link_accepts_input answer_same xs ss both 0
 
 -- at one place, also beyond the end
 flag_at : {A B C : Type 0} (R : Option A → B → Type 0) (f : Option A → C) (g : B → C) (d : B) → ((x : Option A) (y : B) → R x y → f x ≡ g y) → f None ≡ g d → (xs : List (Option A)) (ys : List B) → ListsAreRelated R xs ys → (i : ℕ) → f (get_or xs i None) ≡ g (get_or ys i d)
@@ -185,8 +185,8 @@ flag_at R f g d agree none (x ∷ xs) [] h i = absurd h
 flag_at R f g d agree none (x ∷ xs) (y ∷ ys) h zero = agree x y h.0
 flag_at R f g d agree none (x ∷ xs) (y ∷ ys) h (suc i) = flag_at R f g d agree none xs ys h.1 i
 
-pub read_at : (xs : List (Option Connection)) (ss : List ConnectionModel) → ListsAreRelated ConnectionRepresents xs ss → (i : ℕ) → open_end_has_flag connection_may_send (get_or xs i None) ≡ connection_may_send_request (get_or ss i no_connection)
-read_at = flag_at ConnectionRepresents (open_end_has_flag connection_may_send) connection_may_send_request no_connection read_same refl
+pub read_at : (xs : List (Option Connection)) (ss : List ConnectionModel) → ListsAreRelated ConnectionRepresents xs ss → (i : ℕ) → open_end_has_flag client_of_connection_may_send (get_or xs i None) ≡ connection_may_send_request (get_or ss i no_connection)
+read_at = flag_at ConnectionRepresents (open_end_has_flag client_of_connection_may_send) connection_may_send_request no_connection read_same refl
 
 activity_same : (o : Option Connection) (c : ConnectionModel) → ConnectionRepresents o c → activity_of_connection o ≡ c.activity
 activity_same None c h = sym h.1
@@ -202,8 +202,8 @@ owner_same (Some k) s h = ap Some h.connection ∙ sym (ap (λ (b : Bool). cond 
 pub owner_read_at : (xs : List (Option Link)) (ss : List LinkModel) → ListsAreRelated LinkRepresents xs ss → (j : ℕ) → owner_of_open_link (get_or xs j None) ≡ owner_place_of_link_model (get_or ss j no_link)
 owner_read_at = flag_at LinkRepresents owner_of_open_link owner_place_of_link_model no_link owner_same refl
 
-pub answer_at : (xs : List (Option Link)) (ss : List LinkModel) → ListsAreRelated LinkRepresents xs ss → (j : ℕ) → open_end_has_flag link_may_send (get_or xs j None) ≡ link_accepts_bytes (get_or ss j no_link)
-answer_at = flag_at LinkRepresents (open_end_has_flag link_may_send) link_accepts_bytes no_link answer_same refl
+pub answer_at : (xs : List (Option Link)) (ss : List LinkModel) → ListsAreRelated LinkRepresents xs ss → (j : ℕ) → open_end_has_flag link_may_send (get_or xs j None) ≡ link_accepts_input (get_or ss j no_link)
+answer_at = flag_at LinkRepresents (open_end_has_flag link_may_send) link_accepts_input no_link answer_same refl
 
 -- nothing is beyond the end
 pub beyond : {A : Type 0} (xs : List (Option A)) (i : ℕ) → length xs ≤ i → get_or xs i None ≡ None
@@ -219,7 +219,7 @@ by_place m k i here others q = elim (cases_eq q i) [
 ]
 
 -- the links with a flag, by their numbers
-pub links_emitted : (flag : LinkModel → Bool) (cs : List (Option Connection)) (ks : List (Option Link)) (core : CoreState) (first : ℕ) (s : EngineModel) → EngineRepresents (engine_state cs ks core first) s → (before emitted : List End) → before ≡ []
+pub links_emitted : (flag : LinkModel → Bool) (cs : List (Option Connection)) (ks : List (Option Link)) (core : CoreState) (first : ℕ) (s : EngineModel) → EngineRepresents (engine_state_of_parts cs ks core first) s → (before emitted : List End) → before ≡ []
     → ((ss : List LinkModel) → ListsAreRelated LinkRepresents ks ss → first + length ss ≤ 2 ^ 64 → emitted ≡ before ++ map (link_end_at first) (places_with_flag flag 0 ss)) → emitted ≡ map (link_end_at s.first) (places_with_flag flag 0 s.links)
 links_emitted flag cs ks core first s h before emitted none is =
     let fits : first + length s.links ≤ 2 ^ 64 = subst (λ (n : ℕ). n + length s.links ≤ 2 ^ 64) (sym h.first) h.numbers in

@@ -9,8 +9,8 @@ use Rattle.hx_hop.specs.declared.request_view.Asked.{Asked}
 use Rattle.proxy_core.specs.declared.event.Event.{Event}
 use Rattle.proxy_core.specs.declared.event.Event.TheVariants as events
 use Rattle.proxy_core.specs.Traces.{Item}
-use Rattle.proxy_engine.specs.Admitted.{asked_on_connection}
-use Rattle.proxy_engine.specs.EngineModel.{EngineModel, ConnectionModel, no_connection, connection_at, connection_after_retirement, connection_fault, model_after_happening}
+use Rattle.proxy_engine.specs.Admitted.{asked_closing_if_retired}
+use Rattle.proxy_engine.specs.EngineModel.{EngineModel, ConnectionModel, no_connection, connection_at, connection_after_retirement, fault_of_unknown_connection, model_after_happening}
 use Rattle.proxy_engine.specs.declared.work.EngineFault.{EngineFault}
 use Rattle.proxy_engine.specs.declared.work.EngineFault.TheVariants.{NotAccepted}
 use Rattle.proxy_engine.specs.Due.{Act, Abandons, Finishes, Wakes, Serves, Gives, Breaks}
@@ -93,5 +93,5 @@ or_false false c e = e
 
 pub others_come_as_they_are_asked : UnretiredRequestsAreHandedOverUnchanged
 others_come_as_they_are_asked s now i r event unmarked (asked, (sent, read, handed), is) =
-    let same : asked_on_connection (connection_at s i).retired sent ≡ sent = ap (λ (b : Bool). record sent { close = b }) (or_false sent.close (connection_at s i).retired unmarked) in
+    let same : asked_closing_if_retired (connection_at s i).retired sent ≡ sent = ap (λ (b : Bool). record sent { close = b }) (or_false sent.close (connection_at s i).retired unmarked) in
     (sent, read, is ∙ ap (λ (a : Asked). events.Arrive now (i + 1) a) (handed ∙ same))

@@ -4,7 +4,7 @@ use Rattle.std.proofs.lemmas.List.Sums.{sum_by-cons, sum_by-set}
 use Rattle.std.proofs.Math.Seq.{map-set_same}
 use Rattle.proxy_engine.specs.Due.{IsFirstAtWhich}
 use Rattle.proxy_engine.specs.State.{ListsAreRelated}
-use Rattle.proxy_engine.specs.Marked.{end_if_open_at, OptionsAreRelated, PlacesAreRelated, NoOpenEndBelowHasFlag, NoOpenEndHasFlag}
+use Rattle.proxy_engine.specs.Marked.{end_if_open_at, OptionsAreRelated, ContentsOfPlacesAreRelated, NoOpenEndBelowHasFlag, NoOpenEndHasFlag}
 use Rattle.proxy_engine.proofs.Parts.{both_length, both_at}
 
 pub some_from : {C : Type 0} (o : Option C) → true ≡ is_some o → (c : C) × (o ≡ Some c)
@@ -48,7 +48,7 @@ module _ {A B : Type 0} (R : A → A → Type 0) (S : Option A → B → Type 0)
   kept_one (Some x) None r s h = absurd r
   kept_one (Some x) (Some y) r s h = keep x y r s h
 
-  pub both_alike : (xs ys : List (Option A)) → length ys ≡ length xs → PlacesAreRelated R (end_if_open_at xs) (end_if_open_at ys) → (ss : List B) → ListsAreRelated S xs ss → ListsAreRelated S ys ss
+  pub both_alike : (xs ys : List (Option A)) → length ys ≡ length xs → ContentsOfPlacesAreRelated R (end_if_open_at xs) (end_if_open_at ys) → (ss : List B) → ListsAreRelated S xs ss → ListsAreRelated S ys ss
   both_alike [] [] e each ss h = h
   both_alike [] (y ∷ ys) e each ss h = absurd (omega (arith, e))
   both_alike (x ∷ xs) [] e each ss h = absurd (omega (arith, e))
@@ -56,7 +56,7 @@ module _ {A B : Type 0} (R : A → A → Type 0) (S : Option A → B → Type 0)
   both_alike (x ∷ xs) (y ∷ ys) e each (s ∷ ss) h = (kept_one x y (each 0) s h.0, both_alike xs ys (omega (arith, e)) (λ i. each (suc i)) ss h.1)
 
 -- what is read of each is as it was
-pub map_alike : {A B : Type 0} (R : A → A → Type 0) (f : Option A → B) → ((x y : A) → R x y → f (Some y) ≡ f (Some x)) → (xs ys : List (Option A)) → length ys ≡ length xs → PlacesAreRelated R (end_if_open_at xs) (end_if_open_at ys) → map f ys ≡ map f xs
+pub map_alike : {A B : Type 0} (R : A → A → Type 0) (f : Option A → B) → ((x y : A) → R x y → f (Some y) ≡ f (Some x)) → (xs ys : List (Option A)) → length ys ≡ length xs → ContentsOfPlacesAreRelated R (end_if_open_at xs) (end_if_open_at ys) → map f ys ≡ map f xs
 map_alike {A} R f same = by_list
   where
     one : (o p : Option A) → OptionsAreRelated R o p → f p ≡ f o
@@ -65,14 +65,14 @@ map_alike {A} R f same = by_list
     one (Some x) None r = absurd r
     one (Some x) (Some y) r = same x y r
 
-    by_list : (xs ys : List (Option A)) → length ys ≡ length xs → PlacesAreRelated R (end_if_open_at xs) (end_if_open_at ys) → map f ys ≡ map f xs
+    by_list : (xs ys : List (Option A)) → length ys ≡ length xs → ContentsOfPlacesAreRelated R (end_if_open_at xs) (end_if_open_at ys) → map f ys ≡ map f xs
     by_list [] [] e each = refl
     by_list [] (y ∷ ys) e each = absurd (omega (arith, e))
     by_list (x ∷ xs) [] e each = absurd (omega (arith, e))
     by_list (x ∷ xs) (y ∷ ys) e each = ap (λ b. b ∷ map f ys) (one x y (each 0)) ∙ ap (λ bs. f x ∷ bs) (by_list xs ys (omega (arith, e)) (λ i. each (suc i)))
 
 -- a sum over what is read of each is no greater
-pub sum_alike : {A : Type 0} (R : A → A → Type 0) (f : Option A → ℕ) → ((x y : A) → R x y → f (Some y) ≤ f (Some x)) → (xs ys : List (Option A)) → length ys ≡ length xs → PlacesAreRelated R (end_if_open_at xs) (end_if_open_at ys) → sum_by f ys ≤ sum_by f xs
+pub sum_alike : {A : Type 0} (R : A → A → Type 0) (f : Option A → ℕ) → ((x y : A) → R x y → f (Some y) ≤ f (Some x)) → (xs ys : List (Option A)) → length ys ≡ length xs → ContentsOfPlacesAreRelated R (end_if_open_at xs) (end_if_open_at ys) → sum_by f ys ≤ sum_by f xs
 sum_alike {A} R f less = by_list
   where
     one : (o p : Option A) → OptionsAreRelated R o p → f p ≤ f o
@@ -81,7 +81,7 @@ sum_alike {A} R f less = by_list
     one (Some x) None r = absurd r
     one (Some x) (Some y) r = less x y r
 
-    by_list : (xs ys : List (Option A)) → length ys ≡ length xs → PlacesAreRelated R (end_if_open_at xs) (end_if_open_at ys) → sum_by f ys ≤ sum_by f xs
+    by_list : (xs ys : List (Option A)) → length ys ≡ length xs → ContentsOfPlacesAreRelated R (end_if_open_at xs) (end_if_open_at ys) → sum_by f ys ≤ sum_by f xs
     by_list [] [] e each = omega arith
     by_list [] (y ∷ ys) e each = absurd (omega (arith, e))
     by_list (x ∷ xs) [] e each = absurd (omega (arith, e))

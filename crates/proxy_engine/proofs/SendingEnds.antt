@@ -3,9 +3,9 @@ use Rattle.std.proofs.Common.{◌≡◌, ℕ, zero, suc, ◌+◌, ◌-◌, ◌<�
 use Rattle.std.specs.List.{AllByRecursion}
 use Rattle.std.proofs.lemmas.List.{append_assoc, map-append}
 use Rattle.std.proofs.lemmas.List.Elements.{Contains-append_left, Contains-append_right}
-use Rattle.proxy_engine.specs.EngineModel.{EngineModel, no_connection, no_link, new_connection_model, link_accepts_bytes}
+use Rattle.proxy_engine.specs.EngineModel.{EngineModel, no_connection, no_link, new_connection_model, link_accepts_input}
 use Rattle.proxy_engine.specs.Reading.{places_with_flag, connection_may_send_request, client_end_at, link_end_at, end_may_send}
-use Rattle.proxy_engine.specs.SendingEnds.{SendingEndHasNumber, ReadableEndsMaySend, SendingEndIsReadable, AcceptAddsReadableEnd, EndsMaySendAsBeforeAccept}
+use Rattle.proxy_engine.specs.SendingEnds.{EndWhosePeerMaySendHasNumber, ReadableEndsMaySend, EndWhosePeerMaySendIsReadable, AcceptAddsReadableEnd, EndsMaySendAsBeforeAccept}
 use Rattle.proxy_engine.specs.declared.work.End.{End}
 use Rattle.proxy_engine.specs.declared.work.End.TheVariants as ends
 use Rattle.proxy_engine.specs.declared.work.EngineFault.{EngineFault}
@@ -91,18 +91,18 @@ client_at s k e =
     let here : k + 1 - 1 ≡ k = omega arith in
     both_true (nat_lt 0 (k + 1)) _ (below 0 (k + 1) (omega arith)) (subst (λ (n : ℕ). connection_may_send_request (get_or s.connections n no_connection) ≡ true) (sym here) e)
 
-link_at_place : (s : EngineModel) (k : ℕ) → link_accepts_bytes (get_or s.links k no_link) ≡ true → end_may_send s (link_end_at s.first k) ≡ true
+link_at_place : (s : EngineModel) (k : ℕ) → link_accepts_input (get_or s.links k no_link) ≡ true → end_may_send s (link_end_at s.first k) ≡ true
 link_at_place s k e =
     let here : s.first + k - s.first ≡ k = omega arith in
-    both_true (nat_le s.first (s.first + k)) _ (at_least s.first (s.first + k) (omega arith)) (subst (λ (n : ℕ). link_accepts_bytes (get_or s.links n no_link) ≡ true) (sym here) e)
+    both_true (nat_le s.first (s.first + k)) _ (at_least s.first (s.first + k) (omega arith)) (subst (λ (n : ℕ). link_accepts_input (get_or s.links n no_link) ≡ true) (sym here) e)
 
 pub readable_may_send : ReadableEndsMaySend
 readable_may_send s =
-    each_joined (λ end. end_may_send s end ≡ true) (map (link_end_at s.first) (places_with_flag link_accepts_bytes 0 s.links)) (map client_end_at (places_with_flag connection_may_send_request 0 s.connections))
-    (each_mapped (λ end. end_may_send s end ≡ true) (link_end_at s.first) (places_with_flag link_accepts_bytes 0 s.links) (each_flagged link_accepts_bytes no_link (λ n. end_may_send s (link_end_at s.first n) ≡ true) s.links 0 (λ k e l. let same : k ≡ 0 + k = omega arith in subst (λ (n : ℕ). end_may_send s (link_end_at s.first n) ≡ true) same (link_at_place s k e))))
+    each_joined (λ end. end_may_send s end ≡ true) (map (link_end_at s.first) (places_with_flag link_accepts_input 0 s.links)) (map client_end_at (places_with_flag connection_may_send_request 0 s.connections))
+    (each_mapped (λ end. end_may_send s end ≡ true) (link_end_at s.first) (places_with_flag link_accepts_input 0 s.links) (each_flagged link_accepts_input no_link (λ n. end_may_send s (link_end_at s.first n) ≡ true) s.links 0 (λ k e l. let same : k ≡ 0 + k = omega arith in subst (λ (n : ℕ). end_may_send s (link_end_at s.first n) ≡ true) same (link_at_place s k e))))
     (each_mapped (λ end. end_may_send s end ≡ true) client_end_at (places_with_flag connection_may_send_request 0 s.connections) (each_flagged connection_may_send_request no_connection (λ n. end_may_send s (client_end_at n) ≡ true) s.connections 0 (λ k e l. let same : k ≡ 0 + k = omega arith in subst (λ (n : ℕ). end_may_send s (client_end_at n) ≡ true) same (client_at s k e))))
 
-pub sending_is_readable : SendingEndIsReadable
+pub sending_is_readable : EndWhosePeerMaySendIsReadable
 sending_is_readable s ends.Listener e = absurd cc
 sending_is_readable s (ends.Client n) e =
     let two = first_true (nat_lt 0 n) _ e in
@@ -110,21 +110,21 @@ sending_is_readable s (ends.Client n) e =
     let within = flagged_within connection_may_send_request no_connection refl s.connections (n - 1) two.1 in
     let there = among_mapped client_end_at _ _ (among_flagged connection_may_send_request no_connection s.connections 0 (n - 1) within two.1) in
     let same : 0 + (n - 1) + 1 ≡ n = omega (arith, positive) in
-    Contains-append_right (map (link_end_at s.first) (places_with_flag link_accepts_bytes 0 s.links)) (map client_end_at (places_with_flag connection_may_send_request 0 s.connections)) (ends.Client n)
+    Contains-append_right (map (link_end_at s.first) (places_with_flag link_accepts_input 0 s.links)) (map client_end_at (places_with_flag connection_may_send_request 0 s.connections)) (ends.Client n)
     (subst (λ (m : ℕ). Contains (map client_end_at (places_with_flag connection_may_send_request 0 s.connections)) (ends.Client m)) same there)
 sending_is_readable s (ends.Link l) e =
     let two = first_true (nat_le s.first l) _ e in
     let from = above_first s.first l two.0 in
-    let within = flagged_within link_accepts_bytes no_link refl s.links (l - s.first) two.1 in
-    let there = among_mapped (link_end_at s.first) _ _ (among_flagged link_accepts_bytes no_link s.links 0 (l - s.first) within two.1) in
+    let within = flagged_within link_accepts_input no_link refl s.links (l - s.first) two.1 in
+    let there = among_mapped (link_end_at s.first) _ _ (among_flagged link_accepts_input no_link s.links 0 (l - s.first) within two.1) in
     let same : s.first + (0 + (l - s.first)) ≡ l = omega (arith, from) in
-    Contains-append_left (map (link_end_at s.first) (places_with_flag link_accepts_bytes 0 s.links)) (map client_end_at (places_with_flag connection_may_send_request 0 s.connections)) (ends.Link l)
-    (subst (λ (m : ℕ). Contains (map (link_end_at s.first) (places_with_flag link_accepts_bytes 0 s.links)) (ends.Link m)) same there)
+    Contains-append_left (map (link_end_at s.first) (places_with_flag link_accepts_input 0 s.links)) (map client_end_at (places_with_flag connection_may_send_request 0 s.connections)) (ends.Link l)
+    (subst (λ (m : ℕ). Contains (map (link_end_at s.first) (places_with_flag link_accepts_input 0 s.links)) (ends.Link m)) same there)
 
 no_fault : (a b : Bool) (f : EngineFault) → a ≡ true → b ≡ true → cond (a && b) None (Some f) ≡ None
 no_fault a b f e g = ap (λ (c : Bool). cond c None (Some f)) (both_true a b e g)
 
-pub sending_has_number : SendingEndHasNumber
+pub sending_has_number : EndWhosePeerMaySendHasNumber
 sending_has_number s ends.Listener e = tt
 sending_has_number s (ends.Client n) e =
     let two = first_true (nat_lt 0 n) _ e in
@@ -132,14 +132,14 @@ sending_has_number s (ends.Client n) e =
     no_fault (nat_lt 0 n) (nat_le n (length s.connections)) NotAccepted two.0 (at_least n (length s.connections) (omega (arith, within)))
 sending_has_number s (ends.Link l) e =
     let two = first_true (nat_le s.first l) _ e in
-    let within = flagged_within link_accepts_bytes no_link refl s.links (l - s.first) two.1 in
+    let within = flagged_within link_accepts_input no_link refl s.links (l - s.first) two.1 in
     no_fault (nat_le s.first l) (nat_lt (l - s.first) (length s.links)) WrongNumber two.0 (below (l - s.first) (length s.links) within)
 
 -- ---- one more connection
 
 pub accept_adds : AcceptAddsReadableEnd
 accept_adds s =
-    let links = map (link_end_at s.first) (places_with_flag link_accepts_bytes 0 s.links) in
+    let links = map (link_end_at s.first) (places_with_flag link_accepts_input 0 s.links) in
     let clients = places_with_flag connection_may_send_request 0 s.connections in
     ap (λ (ns : List ℕ). links ++ map client_end_at ns) (flagged_more connection_may_send_request no_connection s.connections 0 (new_connection_model s.core.table.max_body) refl)
     ∙ (ap (λ (es : List End). links ++ es) (map-append client_end_at clients ((0 + length s.connections) ∷ []))

@@ -15,9 +15,9 @@ use Rattle.proxy_core.specs.declared.outcome.Outcome.TheVariants.{WaitsNoMore}
 use Rattle.proxy_core.specs.declared.event.Event.{Event}
 use Rattle.proxy_script.specs.declared.effect_list.Effect.{Effect}
 use Rattle.proxy_engine.specs.Happenings.{Accepts, Sends, Hears, Ends, Leaves, Retires, Overdues, Shuts, Fails}
-use Rattle.proxy_engine.specs.EngineModel.{EngineModel, ConnectionModel, LinkModel, no_connection, no_link, new_connection_model, new_link_model, connection_at, with_connection, with_link, model_with_core, connection_after_bytes, connection_after_end, connection_after_disconnect, connection_after_retirement, link_after_bytes, link_after_end, link_after_its_failure}
+use Rattle.proxy_engine.specs.EngineModel.{EngineModel, ConnectionModel, LinkModel, no_connection, no_link, new_connection_model, new_link_model, connection_at, with_changed_connection, with_changed_link, model_with_core, connection_after_bytes, connection_after_end, connection_after_disconnect, connection_after_retirement, link_after_bytes, link_after_end, link_after_its_failure}
 use Rattle.proxy_engine.specs.Due.{Abandons, Finishes, Wakes, Serves, Gives, Breaks}
-use Rattle.proxy_engine.specs.Acts.{request_is_head, OutcomeOnConnection, Replies, Forwards, Nothing, ConnectionIsServed, RequestArrives, CoreIsStepped, outcome_with_origin_address, model_after_outcome, model_after_link_freed, connection_with_activity, connection_with_closed, link_model_dropped, with_due_answer_used, model_with_opened_link, Queues}
+use Rattle.proxy_engine.specs.Acts.{request_is_head, OutcomeOnConnection, Replies, Forwards, Nothing, ConnectionRequestIsServed, RequestArrivesOrIsRefused, CoreIsStepped, outcome_with_origin_address, model_after_outcome, model_after_link_freed, connection_with_activity, connection_with_closed, link_model_dropped, connection_with_due_answer_used, model_with_opened_link, Queues}
 use Rattle.proxy_engine.specs.Orderly.{EndedEndsStayEnded, EndedEndsStayEndedAfterHappening, EndedEndsStayEndedAfterAct}
 use Rattle.proxy_engine.specs.declared.endpoints.activities.Activity.TheVariants.{Free, Forwarded, Waiting}
 
@@ -61,7 +61,7 @@ stays_on r s t f g = record {
 }
 
 stays_connection : (s : EngineModel) (i : ℕ) (f : ConnectionModel → ConnectionModel) → ((c : ConnectionModel) → IsShut c → IsShut (f c)) → ((c : ConnectionModel) → IsGone c → IsGone (f c))
-    → ((c : ConnectionModel) → IsRetired c → IsRetired (f c)) → EndedEndsStayEnded s (with_connection s i f)
+    → ((c : ConnectionModel) → IsRetired c → IsRetired (f c)) → EndedEndsStayEnded s (with_changed_connection s i f)
 stays_connection s i f shuts goes retires = record {
   closed = λ k l e. stays_set IsShut no_connection s.connections i (f (connection_at s i)) k (shuts (connection_at s i)) e;
   gone = λ k l e. stays_set IsGone no_connection s.connections i (f (connection_at s i)) k (goes (connection_at s i)) e;
@@ -72,7 +72,7 @@ stays_connection s i f shuts goes retires = record {
   first = refl;
 }
 
-stays_link : (s : EngineModel) (j : ℕ) (f : LinkModel → LinkModel) → ((k : LinkModel) → IsDropped k → IsDropped (f k)) → EndedEndsStayEnded s (with_link s j f)
+stays_link : (s : EngineModel) (j : ℕ) (f : LinkModel → LinkModel) → ((k : LinkModel) → IsDropped k → IsDropped (f k)) → EndedEndsStayEnded s (with_changed_link s j f)
 stays_link s j f drops = record {
   closed = λ k l e. e;
   gone = λ k l e. e;
@@ -124,7 +124,7 @@ shut_or : (b c : Bool) → b ≡ true → (b || c) ≡ true
 shut_or true c e = refl
 shut_or false c e = cc
 
-stays_closing : (s : EngineModel) (i : ℕ) (close : Bool) → EndedEndsStayEnded s (with_connection s i (connection_with_closed close))
+stays_closing : (s : EngineModel) (i : ℕ) (close : Bool) → EndedEndsStayEnded s (with_changed_connection s i (connection_with_closed close))
 stays_closing s i close = stays_connection s i (connection_with_closed close) (λ c e. shut_or c.closed close e) (λ c e. e) (λ c e. e)
 
 stays_opened : (s : EngineModel) (i : ℕ) (to_head : Bool) → EndedEndsStayEnded s (model_with_opened_link s i to_head)
@@ -147,7 +147,7 @@ stays_after s i to_head Queues = stays_connection s i (connection_with_activity 
 stays_after s i to_head Nothing = stays_here s s.core
 
 stays_freed : (s : EngineModel) (j i : ℕ) → EndedEndsStayEnded s (model_after_link_freed s j i)
-stays_freed s j i = stays_on s (with_link s j link_model_dropped) (model_after_link_freed s j i) (stays_link s j link_model_dropped (λ k e. refl)) (stays_connection (with_link s j link_model_dropped) i (connection_with_activity Free) (λ c e. e) (λ c e. e) (λ c e. e))
+stays_freed s j i = stays_on s (with_changed_link s j link_model_dropped) (model_after_link_freed s j i) (stays_link s j link_model_dropped (λ k e. refl)) (stays_connection (with_changed_link s j link_model_dropped) i (connection_with_activity Free) (λ c e. e) (λ c e. e) (λ c e. e))
 
 stays_equal : (s t after : EngineModel) → after ≡ t → EndedEndsStayEnded s t → EndedEndsStayEnded s after
 stays_equal s t after e h = subst (λ (x : EngineModel). EndedEndsStayEnded s x) (sym e) h
@@ -158,14 +158,14 @@ stays_stepped s t i asked event before emitted after h d =
     stays_equal s (model_after_outcome i (request_is_head asked) (outcome_with_origin_address s.core.table d.outcome) now) after d.after_is
     (stays_on s t (model_after_outcome i (request_is_head asked) (outcome_with_origin_address s.core.table d.outcome) now) h (stays_on t now (model_after_outcome i (request_is_head asked) (outcome_with_origin_address s.core.table d.outcome) now) (stays_here t d.core) (stays_after now i (request_is_head asked) (outcome_with_origin_address s.core.table d.outcome))))
 
-stays_passed : (s : EngineModel) (i : ℕ) (m : Next Request) → EndedEndsStayEnded s (with_connection s i (with_due_answer_used m))
-stays_passed s i m = stays_connection s i (with_due_answer_used m) (λ c e. e) (λ c e. e) (λ c e. e)
+stays_passed : (s : EngineModel) (i : ℕ) (m : Next Request) → EndedEndsStayEnded s (with_changed_connection s i (connection_with_due_answer_used m))
+stays_passed s i m = stays_connection s i (connection_with_due_answer_used m) (λ c e. e) (λ c e. e) (λ c e. e)
 
-stays_arrived : (s : EngineModel) (now i : ℕ) (r : Request) (judged : Result Asked Refusal) (emitted : List Effect) (after : EngineModel) → RequestArrives s now i r judged emitted after → EndedEndsStayEnded s after
-stays_arrived s now i r (Ok asked) emitted after d = stays_stepped s (with_connection s i (with_due_answer_used (next.Message r))) i _ _ _ emitted after (stays_passed s i (next.Message r)) d.1
+stays_arrived : (s : EngineModel) (now i : ℕ) (r : Request) (judged : Result Asked Refusal) (emitted : List Effect) (after : EngineModel) → RequestArrivesOrIsRefused s now i r judged emitted after → EndedEndsStayEnded s after
+stays_arrived s now i r (Ok asked) emitted after d = stays_stepped s (with_changed_connection s i (connection_with_due_answer_used (next.Message r))) i _ _ _ emitted after (stays_passed s i (next.Message r)) d.1
 stays_arrived s now i r (Err fault) emitted after d = stays_equal s _ after d.after_is (stays_closing s i true)
 
-stays_served : (s : EngineModel) (now i : ℕ) (w : Next Request) (emitted : List Effect) (after : EngineModel) → ConnectionIsServed s now i w emitted after → EndedEndsStayEnded s after
+stays_served : (s : EngineModel) (now i : ℕ) (w : Next Request) (emitted : List Effect) (after : EngineModel) → ConnectionRequestIsServed s now i w emitted after → EndedEndsStayEnded s after
 stays_served s now i next.More emitted after d = absurd d
 stays_served s now i next.NeedsContinue emitted after d = stays_equal s _ after d.1 (stays_passed s i next.NeedsContinue)
 stays_served s now i (next.Message r) emitted after d = stays_arrived s now i r d.0 emitted after d.2
@@ -183,8 +183,8 @@ stays_served s now i next.End emitted after d = stays_equal s _ after d.1 (stays
 
 pub acts_stay : EndedEndsStayEndedAfterAct
 acts_stay s now (Abandons i (Some l)) emitted after d = stays_stepped s (model_after_link_freed s l i) i _ _ _ emitted after (stays_freed s l i) d
-acts_stay s now (Abandons i None) emitted after d = stays_stepped s (with_connection s i (connection_with_activity Free)) i _ _ _ emitted after (stays_connection s i (connection_with_activity Free) (λ c e. e) (λ c e. e) (λ c e. e)) d
+acts_stay s now (Abandons i None) emitted after d = stays_stepped s (with_changed_connection s i (connection_with_activity Free)) i _ _ _ emitted after (stays_connection s i (connection_with_activity Free) (λ c e. e) (λ c e. e) (λ c e. e)) d
 acts_stay s now (Finishes j (Gives r)) emitted after d = stays_stepped s (model_after_link_freed s j _) _ _ _ _ emitted after (stays_freed s j _) d.1
 acts_stay s now (Finishes j (Breaks kind)) emitted after d = stays_stepped s (model_after_link_freed s j _) _ _ _ _ emitted after (stays_freed s j _) d
-acts_stay s now (Wakes i) emitted after d = stays_stepped s (with_connection s i (connection_with_activity Free)) i _ _ _ emitted after (stays_connection s i (connection_with_activity Free) (λ c e. e) (λ c e. e) (λ c e. e)) d.1
+acts_stay s now (Wakes i) emitted after d = stays_stepped s (with_changed_connection s i (connection_with_activity Free)) i _ _ _ emitted after (stays_connection s i (connection_with_activity Free) (λ c e. e) (λ c e. e) (λ c e. e)) d.1
 acts_stay s now (Serves i w) emitted after d = stays_served s now i w emitted after d

@@ -3,7 +3,7 @@
 -- IsActionForReaderAnswer: what a client's stream asks for, read as a request or refused
 -- ExchangeIsFinishedBy: the core's step that finishes an exchange      link_result_is_answer: it may go forward once
 -- more
--- IsFaultOfFinishing: why it isn't done
+-- IsFaultOfFinishingExchange: why it isn't done
 use Rattle.std.specs.Prelude.{◌≡◌, ℕ, Bool, true, false, None, Some, Ok, Err}
 use Rattle.hx_framing.specs.declared.messages.Request.{Request}
 use Rattle.hx_framing.specs.declared.frame_fault.FrameFault.{FrameFault}
@@ -64,14 +64,14 @@ link_result_is_answer (Gives r) = true
 link_result_is_answer (Breaks kind) = false
 
 -- Why an exchange isn't finished, where no link number is left or one is. Out of memory never hides that none is left.
-abbrev pub IsFaultOfFinishing : Bool → LinkResult → EngineFault → Type 0
-IsFaultOfFinishing exhausted finish WrongNumber = ⊥
-IsFaultOfFinishing exhausted finish NotAccepted = ⊥
-IsFaultOfFinishing exhausted finish NotWaiting = ⊥
-IsFaultOfFinishing exhausted (Gives r) OutOfMemory = exhausted ≡ false
-IsFaultOfFinishing exhausted (Breaks kind) OutOfMemory = Unit {0}
-IsFaultOfFinishing exhausted (Gives r) Spent = exhausted ≡ true
-IsFaultOfFinishing exhausted (Breaks kind) Spent = ⊥
+abbrev pub IsFaultOfFinishingExchange : Bool → LinkResult → EngineFault → Type 0
+IsFaultOfFinishingExchange exhausted finish WrongNumber = ⊥
+IsFaultOfFinishingExchange exhausted finish NotAccepted = ⊥
+IsFaultOfFinishingExchange exhausted finish NotWaiting = ⊥
+IsFaultOfFinishingExchange exhausted (Gives r) OutOfMemory = exhausted ≡ false
+IsFaultOfFinishingExchange exhausted (Breaks kind) OutOfMemory = Unit {0}
+IsFaultOfFinishingExchange exhausted (Gives r) Spent = exhausted ≡ true
+IsFaultOfFinishingExchange exhausted (Breaks kind) Spent = ⊥
 
 abbrev pub outcome_needs_link : Outcome → Bool
 outcome_needs_link (outcomes.Reply reply) = false
@@ -81,9 +81,9 @@ outcome_needs_link outcomes.Ended = false
 outcome_needs_link outcomes.WaitsNoMore = false
 
 -- what an outcome leaves to do: on the link of a request that goes forward, or of one that waits
-abbrev pub acts_due_after_outcome : Outcome → ℕ
-acts_due_after_outcome (outcomes.Reply reply) = 0
-acts_due_after_outcome (outcomes.Forward line bytes) = 1
-acts_due_after_outcome (outcomes.Waits leader) = 2
-acts_due_after_outcome outcomes.Ended = 0
-acts_due_after_outcome outcomes.WaitsNoMore = 0
+abbrev pub due_act_count_after_outcome : Outcome → ℕ
+due_act_count_after_outcome (outcomes.Reply reply) = 0
+due_act_count_after_outcome (outcomes.Forward line bytes) = 1
+due_act_count_after_outcome (outcomes.Waits leader) = 2
+due_act_count_after_outcome outcomes.Ended = 0
+due_act_count_after_outcome outcomes.WaitsNoMore = 0

@@ -1,7 +1,7 @@
 -- What a connection does with the last request that it took.
 --
 -- link_place_of_activity: the link on which it went forward     has_exchange: its exchange is open
--- forwarded_or_waiting: whether the request of its open exchange is at the origin
+-- is_forwarded_if_exchange: whether the request of its open exchange is at the origin
 use Rattle.std.specs.Prelude.{ℕ, Bool, true, false, Option, None, Some}
 use Rattle.proxy_engine.specs.declared.endpoints.activities.Activity.{Activity}
 use Rattle.proxy_engine.specs.declared.endpoints.activities.Activity.TheVariants.{Free, Forwarded, Waiting}
@@ -19,7 +19,7 @@ has_exchange (Forwarded place) = true
 has_exchange Waiting = true
 
 -- an exchange is open, and its request is at the origin or waits
-abbrev pub forwarded_or_waiting : Activity → Option Bool
-forwarded_or_waiting Free = None
-forwarded_or_waiting (Forwarded place) = Some true
-forwarded_or_waiting Waiting = Some false
+abbrev pub is_forwarded_if_exchange : Activity → Option Bool
+is_forwarded_if_exchange Free = None
+is_forwarded_if_exchange (Forwarded place) = Some true
+is_forwarded_if_exchange Waiting = Some false

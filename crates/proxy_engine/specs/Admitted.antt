@@ -1,7 +1,7 @@
 -- How a request that was read comes to the core, or why it is refused.
 --
 -- RequestIsAdmittedOrRefused: a request as it is asked, or why and how it is refused
--- asked_on_connection, CoreIsHandedRequest: a request as the core sees it
+-- asked_closing_if_retired, CoreIsHandedRequest: a request as the core sees it
 use Rattle.std.specs.Prelude.{◌≡◌, Bool, ◌||◌, codes, bytes_eq, Result, Ok, Err}
 use Rattle.hx_framing.specs.declared.messages.Request.{Request}
 use Rattle.hx_hop.specs.declared.request_view.Asked.{Asked}
@@ -24,10 +24,10 @@ RequestIsAdmittedOrRefused r (Err refusal) =
 
 -- On a connection that is to end it is a request whose answer closes the connection, and says so, as if its client had
 -- sent `Connection: close` (RFC 9112, section 9.6). On any other it stays as it is.
-abbrev pub asked_on_connection : Bool → Asked → Asked
-asked_on_connection retired asked = record asked { close = asked.close || retired }
+abbrev pub asked_closing_if_retired : Bool → Asked → Asked
+asked_closing_if_retired retired asked = record asked { close = asked.close || retired }
 
 -- what the core is handed of a request, where it names a resource
 abbrev pub CoreIsHandedRequest : Bool → Request → Asked → Type 0
 CoreIsHandedRequest retired r asked =
-    (sent : Asked) × RequestIsAdmittedOrRefused r (Ok sent) × (asked ≡ asked_on_connection retired sent)
+    (sent : Asked) × RequestIsAdmittedOrRefused r (Ok sent) × (asked ≡ asked_closing_if_retired retired sent)

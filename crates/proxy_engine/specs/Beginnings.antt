@@ -4,7 +4,7 @@
 use Rattle.std.specs.Prelude.{ℕ, List, Some}
 use Rattle.hx_allow.specs.TableLines.{Table}
 use Rattle.hx_store.specs.Stored.{Stored}
-use Rattle.proxy_core.specs.Starts.{StoreAtStart, StartIsValid}
+use Rattle.proxy_core.specs.Starts.{StoreAtStart, StoreAtStartIsValid}
 use Rattle.proxy_core.specs.State.{bounds_of}
 use Rattle.proxy_core.specs.Traces.{initial_state as core_begun}
 use Rattle.proxy_engine.specs.EngineModel.{EngineModel}
@@ -16,7 +16,7 @@ store_holding table held = record { limit = table.capacity; entries = held }
 
 -- no serial twice, each below the first that is given, within the bounds of the table
 abbrev pub ResponsesMayBeHeldAtStart : Table → List Stored → ℕ → Type 0
-ResponsesMayBeHeldAtStart table held first = StartIsValid (bounds_of table table.capacity) (Some first) held
+ResponsesMayBeHeldAtStart table held first = StoreAtStartIsValid (bounds_of table table.capacity) (Some first) held
 
 -- serials of stored responses begin at the first, numbers of links at that of a link
 abbrev pub engine_model_at_start : Table → List Stored → ℕ → ℕ → EngineModel

@@ -7,7 +7,7 @@ use Rattle.std.specs.Prelude.{◌≡◌, ◌⊎◌, ℕ, ◌<◌, ◌≤◌, Lis
 use Rattle.std.specs.List.{AllByRecursion}
 use Rattle.proxy_script.specs.declared.effect_list.Effect.{Effect}
 use Rattle.proxy_script.specs.declared.effect_list.Effect.TheVariants as effects
-use Rattle.proxy_engine.specs.ConnectionNumbers.{link_number}
+use Rattle.proxy_engine.specs.ConnectionNumbers.{link_number_of_place}
 use Rattle.proxy_engine.specs.Happenings.{HappeningModel}
 use Rattle.proxy_engine.specs.EngineModel.{EngineModel, link_at, model_after_happening}
 use Rattle.proxy_engine.specs.Due.{Act}
@@ -39,7 +39,7 @@ EachDroppedLinkIsEmitted =
     (s : EngineModel) (now : ℕ) (act : Act) (emitted : List Effect) (after : EngineModel) (j : ℕ)
     → ActIsDone s now act emitted after → j < length after.links → (link_at after j).dropped ≡ true →
     ((j < length s.links) × ((link_at s j).dropped ≡ true))
-    ⊎ ((rest : List Effect) × (emitted ≡ effects.Drop (link_number s.first j) ∷ rest))
+    ⊎ ((rest : List Effect) × (emitted ≡ effects.Drop (link_number_of_place s.first j) ∷ rest))
 
 -- what happens drops no link
 abbrev pub HappeningsDropNoLink : Type 0

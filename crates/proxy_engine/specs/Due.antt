@@ -1,8 +1,9 @@
 -- What is due at the ends of the proxy, and which act is due first.
 --
--- LinkResult, link_result_of: what stands on a link
--- IsGoneWhileBusy, IsDueOnLink, IsDueOnConnection: what is due at one end
--- first_wakeable_id: the first request that may be woken      Act, IsDueFirst: the first act that is due, or that none
+-- LinkResult, link_result_of_next: what stands on a link
+-- IsGoneWhileBusy, IsDueLinkResult, IsDueOnConnection: what is due at one end
+-- first_wakeable_id: the first request that may be woken      Act, IsFirstDueAct: the first act that is due, or that
+-- none
 -- is
 use Rattle.std.specs.Prelude.{◌≡◌, ℕ, ◌<◌, List, length, Bool, true, false, ◌||◌, Option, None, Some, if◌then◌else◌}
 use Rattle.std.specs.Prelude.{slice_index_or, ◌&&◌, slice_get}
@@ -17,7 +18,7 @@ use Rattle.hx_framing.specs.RequestStream.{Answers as RequestAnswers}
 use Rattle.hx_framing.specs.ResponseStream.{Answers as ResponseAnswers}
 use Rattle.hx_status.specs.declared.cause.FailKind.{FailKind}
 use Rattle.hx_status.specs.declared.cause.FailKind.TheVariants as kinds
-use Rattle.proxy_engine.specs.ConnectionNumbers.{connection_number}
+use Rattle.proxy_engine.specs.ConnectionNumbers.{connection_number_of_place}
 use Rattle.proxy_engine.specs.Activities.{link_place_of_activity, has_exchange}
 use Rattle.proxy_core.specs.Leading.{wakeable_ids}
 use Rattle.proxy_core.specs.State.{State as CoreState}
@@ -43,12 +44,12 @@ fail_kind_of_fault frame.Expect = kinds.BadAnswer
 fail_kind_of_fault frame.Status = kinds.BadAnswer
 
 -- what came first counts: an answer or a fault before the failure
-abbrev pub link_result_of : Next Response → Option FailKind → Option LinkResult
-link_result_of next.More kind = option_map Breaks kind
-link_result_of (next.Message m) kind = Some (Gives m)
-link_result_of (next.Refused fault) kind = Some (Breaks (fail_kind_of_fault fault))
-link_result_of next.NeedsContinue kind = Some (Breaks kinds.BadAnswer)
-link_result_of next.End kind = Some (Breaks kinds.Closed)
+abbrev pub link_result_of_next : Next Response → Option FailKind → Option LinkResult
+link_result_of_next next.More kind = option_map Breaks kind
+link_result_of_next (next.Message m) kind = Some (Gives m)
+link_result_of_next (next.Refused fault) kind = Some (Breaks (fail_kind_of_fault fault))
+link_result_of_next next.NeedsContinue kind = Some (Breaks kinds.BadAnswer)
+link_result_of_next next.End kind = Some (Breaks kinds.Closed)
 
 -- what a client's stream asks for next
 abbrev pub due_request_action : Next Request → Option (Next Request)
@@ -65,23 +66,24 @@ IsGoneWhileBusy c o = o ≡ (if c.gone && has_exchange c.activity then Some (lin
 
 abbrev pub LinkResultUnlessDropped : Bool → LinkModel → Option LinkResult → Type 0
 LinkResultUnlessDropped true k o = o ≡ None
-LinkResultUnlessDropped false k o = (a : Next Response) × ResponseAnswers k.progress a × (o ≡ link_result_of a k.failed)
+LinkResultUnlessDropped false k o = (a : Next Response) × ResponseAnswers k.progress a
+    × (o ≡ link_result_of_next a k.failed)
 
 -- what stands on a link
-abbrev pub IsDueOnLink : LinkModel → Option LinkResult → Type 0
-IsDueOnLink k o = LinkResultUnlessDropped k.dropped k o
+abbrev pub IsDueLinkResult : LinkModel → Option LinkResult → Type 0
+IsDueLinkResult k o = LinkResultUnlessDropped k.dropped k o
 
 -- it is gone or closed, or has an open exchange
 abbrev pub accepts_no_request : Bool → Bool → Activity → Bool
 accepts_no_request gone closed activity = gone || (closed || has_exchange activity)
 
-abbrev pub ConnectionActionUnlessBusy : Bool → ConnectionModel → Option (Next Request) → Type 0
-ConnectionActionUnlessBusy true c o = o ≡ None
-ConnectionActionUnlessBusy false c o = (a : Next Request) × RequestAnswers c.progress a × (o ≡ due_request_action a)
+abbrev pub IsDueRequestActionUnlessBusy : Bool → ConnectionModel → Option (Next Request) → Type 0
+IsDueRequestActionUnlessBusy true c o = o ≡ None
+IsDueRequestActionUnlessBusy false c o = (a : Next Request) × RequestAnswers c.progress a × (o ≡ due_request_action a)
 
 -- what stands on a connection that is neither closed nor gone and has no open exchange
 abbrev pub IsDueOnConnection : ConnectionModel → Option (Next Request) → Type 0
-IsDueOnConnection c o = ConnectionActionUnlessBusy (accepts_no_request c.gone c.closed c.activity) c o
+IsDueOnConnection c o = IsDueRequestActionUnlessBusy (accepts_no_request c.gone c.closed c.activity) c o
 
 -- the first place of a list at which something stands, and what; or that nothing stands anywhere
 abbrev pub IsFirstAtWhich : {A B : Type 0} → (A → Option B → Type 0) → A → List A → Option (ℕ × B) → Type 0
@@ -102,19 +104,23 @@ abbrev pub first_wakeable_id : CoreState → Option ℕ
 first_wakeable_id core = slice_get (wakeable_ids core.exchanges) 0
 
 -- the first act that is due, or that none is
-abbrev pub IsDueFirst : EngineModel → Option Act → Type 0
-IsDueFirst s (Some (Abandons i l)) = IsFirstAtWhich IsGoneWhileBusy no_connection s.connections (Some (i, l))
-IsDueFirst s (Some (Finishes j f)) =
-    IsFirstAtWhich IsGoneWhileBusy no_connection s.connections None × IsFirstAtWhich IsDueOnLink no_link s.links (Some
+abbrev pub IsFirstDueAct : EngineModel → Option Act → Type 0
+IsFirstDueAct s (Some (Abandons i l)) = IsFirstAtWhich IsGoneWhileBusy no_connection s.connections (Some (i, l))
+IsFirstDueAct s (Some (Finishes j f)) =
+    IsFirstAtWhich
+    IsGoneWhileBusy no_connection s.connections None × IsFirstAtWhich IsDueLinkResult no_link s.links (Some
     (j, f))
-IsDueFirst s (Some (Wakes i)) =
-    IsFirstAtWhich IsGoneWhileBusy no_connection s.connections None × IsFirstAtWhich IsDueOnLink no_link s.links None
-    × (first_wakeable_id s.core ≡ Some (connection_number i))
-IsDueFirst s (Some (Serves i w)) =
-    IsFirstAtWhich IsGoneWhileBusy no_connection s.connections None × IsFirstAtWhich IsDueOnLink no_link s.links None
+IsFirstDueAct s (Some (Wakes i)) =
+    IsFirstAtWhich IsGoneWhileBusy no_connection s.connections None
+    × IsFirstAtWhich IsDueLinkResult no_link s.links None
+    × (first_wakeable_id s.core ≡ Some (connection_number_of_place i))
+IsFirstDueAct s (Some (Serves i w)) =
+    IsFirstAtWhich IsGoneWhileBusy no_connection s.connections None
+    × IsFirstAtWhich IsDueLinkResult no_link s.links None
     × (first_wakeable_id s.core ≡ None)
     × IsFirstAtWhich IsDueOnConnection no_connection s.connections (Some (i, w))
-IsDueFirst s None =
-    IsFirstAtWhich IsGoneWhileBusy no_connection s.connections None × IsFirstAtWhich IsDueOnLink no_link s.links None
+IsFirstDueAct s None =
+    IsFirstAtWhich IsGoneWhileBusy no_connection s.connections None
+    × IsFirstAtWhich IsDueLinkResult no_link s.links None
     × (first_wakeable_id s.core ≡ None)
     × IsFirstAtWhich IsDueOnConnection no_connection s.connections None

@@ -7,12 +7,12 @@ use Rattle.hx_framing.specs.RequestState.{State as RequestState}
 use Rattle.hx_framing.specs.ResponseState.{State as ResponseState}
 use Rattle.hx_status.specs.declared.cause.FailKind.{FailKind}
 use Rattle.hx_status.specs.declared.cause.FailKind.TheVariants as kinds
-use Rattle.hx_allow.specs.Matching.{route_over}
+use Rattle.hx_allow.specs.Matching.{route_over_line}
 use Rattle.proxy_core.specs.declared.open.stage.Stage.TheVariants as stages
-use Rattle.proxy_core.specs.Cases.{forwarded_on_miss, get_a_with, line_with_no_cache, table}
+use Rattle.proxy_core.specs.Cases.{forwarded_on_miss, get_a_with, plain_caching_line, table}
 use Rattle.proxy_core.specs.declared.open.exchange.Exchange.{Exchange}
 use Rattle.proxy_engine.specs.Happenings.{Accepts, Leaves, Shuts, Fails}
-use Rattle.proxy_engine.specs.EngineModel.{EngineModel, model_after_happening, with_connection}
+use Rattle.proxy_engine.specs.EngineModel.{EngineModel, model_after_happening, with_changed_connection}
 use Rattle.proxy_engine.specs.Acts.{connection_with_activity, connection_with_closed, model_with_opened_link}
 use Rattle.proxy_engine.specs.ModelCases.{model_with_connection, model_with_link}
 use Rattle.proxy_engine.specs.declared.endpoints.activities.Activity.{Activity}
@@ -25,7 +25,8 @@ use Rattle.proxy_engine.specs.declared.endpoints.lookahead.Lookahead.{Lookahead}
 
 -- three clients: the first has a link, the second waits, the third is between two requests
 abbrev pub model_with_three_clients : EngineModel
-model_with_three_clients = with_connection (model_after_happening (model_after_happening model_with_link (Accepts 2))
+model_with_three_clients = with_changed_connection
+    (model_after_happening (model_after_happening model_with_link (Accepts 2))
     (Accepts 3)) 1 (connection_with_activity Waiting)
 
 -- of these the third has gone, or was closed
@@ -33,7 +34,7 @@ abbrev pub model_after_third_client_left : EngineModel
 model_after_third_client_left = model_after_happening model_with_three_clients (Leaves 3)
 
 abbrev pub model_with_third_client_closed : EngineModel
-model_with_third_client_closed = with_connection model_with_three_clients 2 (connection_with_closed true)
+model_with_third_client_closed = with_changed_connection model_with_three_clients 2 (connection_with_closed true)
 
 -- the third client's request went forward too: a second link
 abbrev pub model_with_two_links : EngineModel
@@ -42,12 +43,12 @@ model_with_two_links = model_with_opened_link model_with_three_clients 2 false
 -- the second line gives its origin 7 seconds; over it the first client's request went forward, over the first line the
 -- third one's
 abbrev pub exchange_over_line : ℕ → ℕ → Exchange
-exchange_over_line id line = record (forwarded_on_miss (get_a_with [])) { id = id; line = route_over line }
+exchange_over_line id line = record (forwarded_on_miss (get_a_with [])) { id = id; line = route_over_line line }
 
 abbrev pub model_with_origin_timeout_7 : EngineModel
 model_with_origin_timeout_7 = record model_with_two_links {
   core = record model_with_two_links.core {
-    table = record table { lines = line_with_no_cache ∷ record line_with_no_cache { origin_timeout = Some 7 } ∷ [] };
+    table = record table { lines = plain_caching_line ∷ record plain_caching_line { origin_timeout = Some 7 } ∷ [] };
     exchanges = exchange_over_line 1 2 ∷ exchange_over_line 3 1 ∷ [];
   };
 }
@@ -57,7 +58,7 @@ model_with_origin_timeout_7 = record model_with_two_links {
 abbrev pub model_with_wait_timeout_3 : EngineModel
 model_with_wait_timeout_3 = record model_with_two_links {
   core = record model_with_two_links.core {
-    table = record table { lines = line_with_no_cache ∷ record line_with_no_cache { wait_timeout = Some 3 } ∷ [] };
+    table = record table { lines = plain_caching_line ∷ record plain_caching_line { wait_timeout = Some 3 } ∷ [] };
     exchanges = exchange_over_line 1 2 ∷ record (exchange_over_line 2 2) { stage = stages.Waiting 1 }
         ∷ record (exchange_over_line 3 1) { stage = stages.Waiting 1 } ∷ [];
   };

@@ -17,7 +17,7 @@ use Rattle.proxy_core.specs.declared.event.Event.TheVariants.{Overdue}
 use Rattle.proxy_core.specs.declared.open.exchange.Exchange.{Exchange}
 use Rattle.proxy_core.specs.declared.outcome.Outcome.TheVariants.{WaitsNoMore}
 use Rattle.proxy_core.specs.State.{State as CoreState, state_after_event}
-use Rattle.proxy_engine.specs.ConnectionNumbers.{connection_number, connection_place, link_place}
+use Rattle.proxy_engine.specs.ConnectionNumbers.{connection_number_of_place, place_of_connection_number, link_place}
 use Rattle.proxy_engine.specs.Happenings.{HappeningModel, Accepts, Sends, Hears, Ends, Leaves, Retires, Overdues, Shuts}
 use Rattle.proxy_engine.specs.Happenings.{Fails}
 use Rattle.proxy_engine.specs.declared.endpoints.activities.Activity.{Activity}
@@ -80,28 +80,30 @@ link_at s j = slice_index_or s.links j no_link
 
 -- ---- what happens
 
-abbrev pub connection_fault : ℕ → ℕ → Option EngineFault
-connection_fault count n = if nat_lt 0 n && nat_le n count then None else Some NotAccepted
+abbrev pub fault_of_unknown_connection : ℕ → ℕ → Option EngineFault
+fault_of_unknown_connection count n = if nat_lt 0 n && nat_le n count then None else Some NotAccepted
 
-abbrev pub link_number_fault : ℕ → ℕ → ℕ → Option EngineFault
-link_number_fault first count l = if nat_le first l && nat_lt (link_place first l) count then None else Some WrongNumber
+abbrev pub fault_of_unknown_link : ℕ → ℕ → ℕ → Option EngineFault
+fault_of_unknown_link first count l = if nat_le first l
+    && nat_lt (link_place first l) count then None else Some WrongNumber
 
 -- it doesn't wait for the answer to another
-abbrev pub fault_if_none_waits : Option Exchange → Option EngineFault
-fault_if_none_waits None = Some NotWaiting
-fault_if_none_waits (Some x) = if is_waiting x.stage then None else Some NotWaiting
+abbrev pub fault_unless_exchange_waits : Option Exchange → Option EngineFault
+fault_unless_exchange_waits None = Some NotWaiting
+fault_unless_exchange_waits (Some x) = if is_waiting x.stage then None else Some NotWaiting
 
 -- why a happening isn't taken
 abbrev pub happening_fault : EngineModel → HappeningModel → Option EngineFault
-happening_fault s (Accepts n) = if n == connection_number (length s.connections) then None else Some WrongNumber
-happening_fault s (Sends n bytes) = connection_fault (length s.connections) n
-happening_fault s (Ends n) = connection_fault (length s.connections) n
-happening_fault s (Leaves n) = connection_fault (length s.connections) n
-happening_fault s (Retires n) = connection_fault (length s.connections) n
-happening_fault s (Overdues n) = fault_if_none_waits (find_exchange n s.core.exchanges)
-happening_fault s (Hears l bytes) = link_number_fault s.first (length s.links) l
-happening_fault s (Shuts l) = link_number_fault s.first (length s.links) l
-happening_fault s (Fails l kind) = link_number_fault s.first (length s.links) l
+happening_fault s (Accepts n) =
+    if n == connection_number_of_place (length s.connections) then None else Some WrongNumber
+happening_fault s (Sends n bytes) = fault_of_unknown_connection (length s.connections) n
+happening_fault s (Ends n) = fault_of_unknown_connection (length s.connections) n
+happening_fault s (Leaves n) = fault_of_unknown_connection (length s.connections) n
+happening_fault s (Retires n) = fault_of_unknown_connection (length s.connections) n
+happening_fault s (Overdues n) = fault_unless_exchange_waits (find_exchange n s.core.exchanges)
+happening_fault s (Hears l bytes) = fault_of_unknown_link s.first (length s.links) l
+happening_fault s (Shuts l) = fault_of_unknown_link s.first (length s.links) l
+happening_fault s (Fails l kind) = fault_of_unknown_link s.first (length s.links) l
 
 -- what comes for a connection that is closed, gone or ended changes nothing
 abbrev pub connection_after_bytes : List ℕ → ConnectionModel → ConnectionModel
@@ -131,17 +133,18 @@ abbrev pub link_after_its_failure : FailKind → LinkModel → LinkModel
 link_after_its_failure kind k = if k.dropped || is_some k.failed then k else record k { failed = Some kind }
 
 -- bytes are kept of a connection that isn't closed, gone or ended, and of a link that isn't dropped, failed or shut
-abbrev pub connection_accepts_bytes : ConnectionModel → Bool
-connection_accepts_bytes c = not (c.gone || (c.closed || c.progress.ended))
+abbrev pub connection_accepts_input : ConnectionModel → Bool
+connection_accepts_input c = not (c.gone || (c.closed || c.progress.ended))
 
-abbrev pub link_accepts_bytes : LinkModel → Bool
-link_accepts_bytes k = not (k.dropped || (is_some k.failed || k.progress.ended))
+abbrev pub link_accepts_input : LinkModel → Bool
+link_accepts_input k = not (k.dropped || (is_some k.failed || k.progress.ended))
 
 -- a connection is kept, and bytes where they are; marks take no memory
 abbrev pub happening_adds_connection_or_bytes : EngineModel → HappeningModel → Bool
 happening_adds_connection_or_bytes s (Accepts n) = true
-happening_adds_connection_or_bytes s (Sends n bytes) = connection_accepts_bytes (connection_at s (connection_place n))
-happening_adds_connection_or_bytes s (Hears l bytes) = link_accepts_bytes (link_at s (link_place s.first l))
+happening_adds_connection_or_bytes s (Sends n bytes) = connection_accepts_input
+    (connection_at s (place_of_connection_number n))
+happening_adds_connection_or_bytes s (Hears l bytes) = link_accepts_input (link_at s (link_place s.first l))
 happening_adds_connection_or_bytes s (Ends n) = false
 happening_adds_connection_or_bytes s (Leaves n) = false
 happening_adds_connection_or_bytes s (Retires n) = false
@@ -149,8 +152,8 @@ happening_adds_connection_or_bytes s (Overdues n) = false
 happening_adds_connection_or_bytes s (Shuts l) = false
 happening_adds_connection_or_bytes s (Fails l kind) = false
 
-abbrev pub with_connection : EngineModel → ℕ → (ConnectionModel → ConnectionModel) → EngineModel
-with_connection s i f =
+abbrev pub with_changed_connection : EngineModel → ℕ → (ConnectionModel → ConnectionModel) → EngineModel
+with_changed_connection s i f =
     record {
       connections = slice_set s.connections i (f (connection_at s i));
       links = s.links;
@@ -158,8 +161,8 @@ with_connection s i f =
       first = s.first;
     }
 
-abbrev pub with_link : EngineModel → ℕ → (LinkModel → LinkModel) → EngineModel
-with_link s j f =
+abbrev pub with_changed_link : EngineModel → ℕ → (LinkModel → LinkModel) → EngineModel
+with_changed_link s j f =
     record {
       connections = s.connections;
       links = slice_set s.links j (f (link_at s j));
@@ -178,11 +181,14 @@ model_after_happening s (Accepts n) =
       core = s.core;
       first = s.first;
     }
-model_after_happening s (Sends n bytes) = with_connection s (connection_place n) (connection_after_bytes bytes)
-model_after_happening s (Ends n) = with_connection s (connection_place n) connection_after_end
-model_after_happening s (Leaves n) = with_connection s (connection_place n) connection_after_disconnect
-model_after_happening s (Retires n) = with_connection s (connection_place n) connection_after_retirement
+model_after_happening s (Sends n bytes) = with_changed_connection s (place_of_connection_number n)
+    (connection_after_bytes bytes)
+model_after_happening s (Ends n) = with_changed_connection s (place_of_connection_number n) connection_after_end
+model_after_happening s (Leaves n) = with_changed_connection s
+    (place_of_connection_number n) connection_after_disconnect
+model_after_happening s (Retires n) = with_changed_connection s
+    (place_of_connection_number n) connection_after_retirement
 model_after_happening s (Overdues n) = model_with_core s (state_after_event s.core (Overdue n) WaitsNoMore)
-model_after_happening s (Hears l bytes) = with_link s (link_place s.first l) (link_after_bytes bytes)
-model_after_happening s (Shuts l) = with_link s (link_place s.first l) link_after_end
-model_after_happening s (Fails l kind) = with_link s (link_place s.first l) (link_after_its_failure kind)
+model_after_happening s (Hears l bytes) = with_changed_link s (link_place s.first l) (link_after_bytes bytes)
+model_after_happening s (Shuts l) = with_changed_link s (link_place s.first l) link_after_end
+model_after_happening s (Fails l kind) = with_changed_link s (link_place s.first l) (link_after_its_failure kind)

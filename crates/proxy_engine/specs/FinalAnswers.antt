@@ -20,7 +20,7 @@ use Rattle.proxy_core.specs.declared.event.Event.TheVariants as events
 use Rattle.proxy_core.specs.ReadAnswers.{EventIsReadFromAStream}
 use Rattle.proxy_core.specs.Traces.{Item}
 use Rattle.proxy_engine.specs.EngineModel.{EngineModel, ConnectionModel, LinkModel, connection_at, link_at}
-use Rattle.proxy_engine.specs.Due.{Act, Abandons, Finishes, Wakes, Serves, Gives, Breaks, IsDueFirst}
+use Rattle.proxy_engine.specs.Due.{Act, Abandons, Finishes, Wakes, Serves, Gives, Breaks, IsFirstDueAct}
 use Rattle.proxy_engine.specs.Due.{accepts_no_request}
 use Rattle.proxy_engine.specs.Executions.{ExecutionStep, StepsHaveTrace}
 
@@ -64,7 +64,8 @@ EventHasFinalStatus (events.Overdue id) = Unit {0}
 
 -- whatever act is due
 abbrev pub EachDueActIsSpelledByItsStream : Type 0
-EachDueActIsSpelledByItsStream = (s : EngineModel) (act : Act) → IsDueFirst s (Some act) → ActIsSpelledByStreams s act
+EachDueActIsSpelledByItsStream = (s : EngineModel) (act : Act) → IsFirstDueAct s (Some act)
+    → ActIsSpelledByStreams s act
 
 -- from whatever model steps lead on, so is each event that their acts ask the core about
 abbrev pub HoldsForEachCoreEvent : (Event → Type 0) → Type 0

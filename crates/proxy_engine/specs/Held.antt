@@ -8,17 +8,17 @@ use Rattle.proxy_engine.specs.declared.endpoints.ends.Connection.{Connection}
 use Rattle.proxy_engine.specs.declared.endpoints.ends.Link.{Link}
 
 -- whatever is kept
-abbrev pub holds_of_any_end : {A : Type 0} → A → Bool
-holds_of_any_end x = true
+abbrev pub is_true_of_every_end : {A : Type 0} → A → Bool
+is_true_of_every_end x = true
 
 abbrev pub connection_is_not_gone : Connection → Bool
 connection_is_not_gone c = not c.gone
 
-abbrev pub connection_may_send : Connection → Bool
-connection_may_send c = not c.gone && (not c.ended && not (has_exchange c.activity))
+abbrev pub client_of_connection_may_send : Connection → Bool
+client_of_connection_may_send c = not c.gone && (not c.ended && not (has_exchange c.activity))
 
-abbrev pub link_failed : Link → Bool
-link_failed k = is_some k.failed
+abbrev pub open_link_has_failed : Link → Bool
+open_link_has_failed k = is_some k.failed
 
 abbrev pub link_may_send : Link → Bool
 link_may_send k = not (is_some k.failed) && not k.ended

@@ -1,6 +1,6 @@
 pub mod ConnectionNumbers
 pub mod Lookahead
-pub mod Peeked
+pub mod PeekableReader
 pub mod Happenings
 pub mod Activities
 pub mod EngineModel

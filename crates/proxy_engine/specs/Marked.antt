@@ -2,7 +2,7 @@
 --
 -- EndList, end_if_open_at, open_end_count: what contracts see of the connections and links
 -- is_gone_with_exchange, connection_may_be_due, link_may_be_due: something may be due there
--- ConnectionAfterLookahead, LinkAfterLookahead, PlacesAreRelated: what a look leaves
+-- LookingAheadKeepsConnection, LinkAfterLookahead, ContentsOfPlacesAreRelated: what a look leaves
 -- DiffersOnlyInSpareRoom: room was made or given back
 -- NoOpenEndBelowHasFlag, NoOpenEndHasFlag: nothing may be due     NoEndIsOpenBeyond: nothing is kept beyond a count
 -- link_of_disconnected_exchange_at, LookaheadShowsWhatIsDueOnLink, LookaheadShowsWhatIsDueOnConnection: something is
@@ -13,10 +13,10 @@ use Rattle.proxy_engine.specs.ReadyList.{ReadyPlaces, FlaggedPlacesAreMarked}
 use Rattle.proxy_engine.specs.Activities.{link_place_of_activity, has_exchange}
 use Rattle.proxy_engine.specs.Lookahead.{lookahead_may_be_due}
 use Rattle.proxy_engine.specs.EngineModel.{ConnectionModel, LinkModel}
-use Rattle.proxy_engine.specs.Due.{accepts_no_request, IsDueOnLink, IsDueOnConnection}
+use Rattle.proxy_engine.specs.Due.{accepts_no_request, IsDueLinkResult, IsDueOnConnection}
 use Rattle.proxy_engine.specs.State.{ConnectionRepresents, LinkRepresents, link_result_at, due_request_at}
-use Rattle.proxy_engine.specs.State.{connection_work_left}
-use Rattle.proxy_engine.specs.State.{link_work_left}
+use Rattle.proxy_engine.specs.State.{work_left_of_connection}
+use Rattle.proxy_engine.specs.State.{work_left_of_link}
 use Rattle.proxy_engine.specs.declared.endpoints.ends.Connection.{Connection}
 use Rattle.proxy_engine.specs.declared.endpoints.ends.Link.{Link}
 
@@ -47,16 +47,16 @@ abbrev pub link_may_be_due : Link → Bool
 link_may_be_due k = lookahead_may_be_due k.reader.ahead || is_some k.failed
 
 -- after a look: it represents the same models, and no more is to come
-pub record ConnectionAfterLookahead (old new : Connection) : Type 0 where
+pub record LookingAheadKeepsConnection (old new : Connection) : Type 0 where
   pub represents : (s : ConnectionModel) → ConnectionRepresents (Some old) s → ConnectionRepresents (Some new) s
   pub gone : new.gone ≡ old.gone
   pub activity : new.activity ≡ old.activity
-  pub load : connection_work_left (Some new) ≤ connection_work_left (Some old)
+  pub load : work_left_of_connection (Some new) ≤ work_left_of_connection (Some old)
 
 pub record LinkAfterLookahead (old new : Link) : Type 0 where
   pub represents : (s : LinkModel) → LinkRepresents (Some old) s → LinkRepresents (Some new) s
   pub connection : new.connection ≡ old.connection
-  pub load : link_work_left (Some new) ≤ link_work_left (Some old)
+  pub load : work_left_of_link (Some new) ≤ work_left_of_link (Some old)
 
 -- room was made for bytes, or given back: it is alike, and as much may be due
 pub record DiffersOnlyInSpareRoom {A : Type 0} (Alike : A → A → Type 0) (flag : A → Bool) (old new : A) : Type 0 where
@@ -71,8 +71,8 @@ OptionsAreRelated R (Some x) None = ⊥
 OptionsAreRelated R (Some x) (Some y) = R x y
 
 -- at each place
-abbrev pub PlacesAreRelated : {A : Type 0} → (A → A → Type 0) → (ℕ → Option A) → (ℕ → Option A) → Type 0
-PlacesAreRelated R old new = (i : ℕ) → OptionsAreRelated R (old i) (new i)
+abbrev pub ContentsOfPlacesAreRelated : {A : Type 0} → (A → A → Type 0) → (ℕ → Option A) → (ℕ → Option A) → Type 0
+ContentsOfPlacesAreRelated R old new = (i : ℕ) → OptionsAreRelated R (old i) (new i)
 
 -- nothing that is open below that place has the flag
 abbrev pub NoOpenEndBelowHasFlag : {A : Type 0} → (A → Bool) → (ℕ → Option A) → ℕ → Type 0
@@ -99,7 +99,7 @@ abbrev pub LookaheadShowsWhatIsDue : {A B C : Type 0} → (Option A → B → Ty
 LookaheadShowsWhatIsDue {A} {B} R P seen o = (is_some (seen o) ≡ true) × ((s : B) → R o s → P s (seen o))
 
 abbrev pub LookaheadShowsWhatIsDueOnLink : Option Link → Type 0
-LookaheadShowsWhatIsDueOnLink k = LookaheadShowsWhatIsDue LinkRepresents IsDueOnLink link_result_at k
+LookaheadShowsWhatIsDueOnLink k = LookaheadShowsWhatIsDue LinkRepresents IsDueLinkResult link_result_at k
 
 abbrev pub LookaheadShowsWhatIsDueOnConnection : Option Connection → Type 0
 LookaheadShowsWhatIsDueOnConnection c = LookaheadShowsWhatIsDue ConnectionRepresents IsDueOnConnection due_request_at c

@@ -13,7 +13,8 @@ use Rattle.proxy_script.specs.declared.effect_list.Effect.{Effect}
 use Rattle.proxy_engine.specs.Happenings.{HappeningModel}
 use Rattle.proxy_engine.specs.EngineModel.{EngineModel, happening_fault}
 use Rattle.proxy_engine.specs.Due.{Act}
-use Rattle.proxy_engine.specs.Executions.{ExecutionStep, Took, Worked, StepsHaveTrace, IsItemOfAct, StepsAreAGoodRun}
+use Rattle.proxy_engine.specs.Executions.{ExecutionStep, Took, Worked, StepsHaveTrace, CoreItemIsDoneByAct}
+use Rattle.proxy_engine.specs.Executions.{StepsAreAGoodRun}
 use Rattle.proxy_engine.specs.Executions.{core_event_of_happening}
 
 abbrev pub moment_of_event : Event → Option ℕ
@@ -24,15 +25,15 @@ moment_of_event (events.Wake now id) = Some now
 moment_of_event (events.Abandon id) = None
 moment_of_event (events.Overdue id) = None
 
-abbrev pub count_of_events : Option Event → ℕ
-count_of_events None = 0
-count_of_events (Some event) = 1
+abbrev pub one_if_event : Option Event → ℕ
+one_if_event None = 0
+one_if_event (Some event) = 1
 
 -- each act, and what is taken where it asks the core
 abbrev pub count_of_core_steps : List ExecutionStep → ℕ
 count_of_core_steps [] = 0
 count_of_core_steps (Took happening ∷ past) =
-    count_of_core_steps past + count_of_events (core_event_of_happening happening)
+    count_of_core_steps past + one_if_event (core_event_of_happening happening)
 count_of_core_steps (Worked now act emitted ∷ past) = count_of_core_steps past + 1
 
 -- effects that the act didn't tell: one more, one less, another end, other bytes, another order
@@ -58,7 +59,7 @@ RunDoesOnlyTheFirstDueAct =
 abbrev pub RunStepsCoreAtMomentOfAct : Type 0
 RunStepsCoreAtMomentOfAct =
     (table : Table) (s after : EngineModel) (now then : ℕ) (act : Act) (item : Item) (emitted : List Effect) →
-    IsItemOfAct table s now act item emitted after → moment_of_event item.event ≡ Some then → now ≢ then → ⊥
+    CoreItemIsDoneByAct table s now act item emitted after → moment_of_event item.event ≡ Some then → now ≢ then → ⊥
 
 -- a happening that has a fault where the steps before it lead: of an end that isn't there then, or is over
 abbrev pub RunHasNoUntakenHappening : Type 0
@@ -70,8 +71,8 @@ RunHasNoUntakenHappening =
     → StepsAreAGoodRun table start first begin (Took happening ∷ past) last → ⊥
 
 -- items that nothing did: there are no more than acts, and happenings that ask the core
-abbrev pub RunHasNoMoreItems : Type 0
-RunHasNoMoreItems =
+abbrev pub RunHasNoMoreItemsThanSteps : Type 0
+RunHasNoMoreItemsThanSteps =
     (table : Table) (begin last : EngineModel) (steps : List ExecutionStep) (trace : List Item)
     → StepsHaveTrace table begin steps last trace → length trace ≤ count_of_core_steps steps
 

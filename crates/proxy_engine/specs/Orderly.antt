@@ -11,45 +11,45 @@ use Rattle.std.specs.Prelude.{length}
 use Rattle.proxy_core.specs.State.{State as CoreState}
 use Rattle.proxy_script.specs.declared.effect_list.Effect.{Effect}
 use Rattle.proxy_script.specs.declared.effect_list.Effect.TheVariants as effects
-use Rattle.proxy_engine.specs.ConnectionNumbers.{connection_number, link_number}
+use Rattle.proxy_engine.specs.ConnectionNumbers.{connection_number_of_place, link_number_of_place}
 use Rattle.proxy_engine.specs.Happenings.{HappeningModel}
 use Rattle.proxy_engine.specs.declared.endpoints.activities.Activity.{Activity}
 use Rattle.proxy_engine.specs.declared.endpoints.activities.Activity.TheVariants.{Free}
 use Rattle.proxy_engine.specs.EngineModel.{EngineModel, ConnectionModel, LinkModel, connection_at, link_at}
 use Rattle.proxy_engine.specs.EngineModel.{model_after_happening}
-use Rattle.proxy_engine.specs.Due.{Act, IsDueFirst}
+use Rattle.proxy_engine.specs.Due.{Act, IsFirstDueAct}
 use Rattle.proxy_engine.specs.Acts.{ActIsDone, next_link_number}
 use Rattle.proxy_engine.specs.State.{new_engine_model}
-use Rattle.proxy_engine.specs.Pairing.{ConnectionsAndLinksArePaired}
+use Rattle.proxy_engine.specs.Pairing.{ConnectionsLinksAndExchangesMatch}
 
 -- what a connection does
 abbrev pub activity_of_model : ConnectionModel → Activity
 activity_of_model c = c.activity
 
 -- the connection whose request went forward on a link that isn't dropped
-abbrev pub owner_of_model : LinkModel → Option ℕ
-owner_of_model k = if k.dropped then None else Some k.connection
+abbrev pub owner_of_link_model : LinkModel → Option ℕ
+owner_of_link_model k = if k.dropped then None else Some k.connection
 
 pub record ModelIsConsistent (s : EngineModel) : Type 0 where
-  pub paired : ConnectionsAndLinksArePaired (map activity_of_model s.connections)
-      (map owner_of_model s.links) s.core.exchanges
+  pub paired : ConnectionsLinksAndExchangesMatch (map activity_of_model s.connections)
+      (map owner_of_link_model s.links) s.core.exchanges
   pub free : (i : ℕ) → (connection_at s i).closed ≡ true → (connection_at s i).activity ≡ Free
 
 -- the connection of this number is neither closed nor gone
 pub record ConnectionIsOpen (s : EngineModel) (n : ℕ) : Type 0 where
   pub place : ℕ
-  pub number : n ≡ connection_number place
+  pub number : n ≡ connection_number_of_place place
   pub closed : (connection_at s place).closed ≡ false
   pub gone : (connection_at s place).gone ≡ false
 
 -- the connection of this number is closed
 abbrev pub ConnectionHasClosed : EngineModel → ℕ → Type 0
-ConnectionHasClosed s n = (i : ℕ) × (n ≡ connection_number i) × ((connection_at s i).closed ≡ true)
+ConnectionHasClosed s n = (i : ℕ) × (n ≡ connection_number_of_place i) × ((connection_at s i).closed ≡ true)
 
 -- the link of this number was open, and is dropped
 pub record LinkIsDropped (s after : EngineModel) (l : ℕ) : Type 0 where
   pub place : ℕ
-  pub number : l ≡ link_number s.first place
+  pub number : l ≡ link_number_of_place s.first place
   pub still : (link_at s place).dropped ≡ false
   pub dropped : (link_at after place).dropped ≡ true
 
@@ -86,7 +86,7 @@ HappeningKeepsModelConsistent = (s : EngineModel) (h : HappeningModel) → Model
 abbrev pub ActKeepsModelConsistent : Type 0
 ActKeepsModelConsistent =
     (s : EngineModel) (now : ℕ) (act : Act) (emitted : List Effect) (after : EngineModel) → ModelIsConsistent s
-    → IsDueFirst s (Some act) → ActIsDone s now act emitted after → ModelIsConsistent after
+    → IsFirstDueAct s (Some act) → ActIsDone s now act emitted after → ModelIsConsistent after
     × EffectsNameOpenEnds s after emitted
 
 abbrev pub EndedEndsStayEndedAfterHappening : Type 0

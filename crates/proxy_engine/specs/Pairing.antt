@@ -1,8 +1,8 @@
 -- Which connection's request went forward on which link, and which exchanges of the core are open: the three agree.
 --
 -- activities_after_outcome, owners_after_outcome: what an outcome of the core adds
--- forwarded_or_waiting_at: whether an exchange is open, and its request at the origin
--- ConnectionsAndLinksArePaired: connections, links and open exchanges belong together
+-- is_forwarded_if_open: whether an exchange is open, and its request at the origin
+-- ConnectionsLinksAndExchangesMatch: connections, links and open exchanges belong together
 -- ConnectionsAndLinksOfStateArePaired: those of an engine do
 -- owner_of_link_number: the connection of a link by its number
 use Rattle.std.specs.Prelude.{◌≡◌, ℕ, Bool, List, [], ◌∷◌, ◌++◌, map, Option, None, Some, slice_set}
@@ -13,8 +13,8 @@ use Rattle.proxy_core.specs.Outcomes.{find_exchange}
 use Rattle.proxy_core.specs.declared.open.exchange.Exchange.{Exchange}
 use Rattle.proxy_core.specs.declared.outcome.Outcome.{Outcome}
 use Rattle.proxy_core.specs.declared.outcome.Outcome.TheVariants.{Reply, Forward, Waits, Ended, WaitsNoMore}
-use Rattle.proxy_engine.specs.ConnectionNumbers.{connection_number, link_place}
-use Rattle.proxy_engine.specs.Activities.{link_place_of_activity, forwarded_or_waiting}
+use Rattle.proxy_engine.specs.ConnectionNumbers.{connection_number_of_place, link_place}
+use Rattle.proxy_engine.specs.Activities.{link_place_of_activity, is_forwarded_if_exchange}
 use Rattle.proxy_engine.specs.State.{State}
 use Rattle.proxy_engine.specs.declared.endpoints.activities.Activity.{Activity}
 use Rattle.proxy_engine.specs.declared.endpoints.activities.Activity.TheVariants.{Free, Forwarded, Waiting}
@@ -56,19 +56,19 @@ abbrev pub owner_at : List (Option ℕ) → ℕ → Option ℕ
 owner_at xs i = slice_index_or xs i None
 
 -- the exchange of an id is open, and its request is at the origin or waits
-abbrev pub forwarded_or_waiting_at : ℕ → List Exchange → Option Bool
-forwarded_or_waiting_at id exchanges = option_map (λ (x : Exchange). is_forwarded x.stage) (find_exchange id exchanges)
+abbrev pub is_forwarded_if_open : ℕ → List Exchange → Option Bool
+is_forwarded_if_open id exchanges = option_map (λ (x : Exchange). is_forwarded x.stage) (find_exchange id exchanges)
 
 -- An open link and its connection name each other; the exchange of a connection's number is open exactly where the
 -- connection has one, and its request is at the origin exactly where that has a link; and no exchange has a number that
 -- no connection has.
-pub record ConnectionsAndLinksArePaired (activities : List Activity) (owners : List (Option ℕ))
+pub record ConnectionsLinksAndExchangesMatch (activities : List Activity) (owners : List (Option ℕ))
     (exchanges : List Exchange) : Type 0 where
   pub owned : (i j : ℕ) → link_place_of_activity (activity_at activities i) ≡ Some j → owner_at owners j ≡ Some i
   pub linked : (i j : ℕ) → owner_at owners j ≡ Some i → link_place_of_activity (activity_at activities i) ≡ Some j
-  pub opened : (i : ℕ) → forwarded_or_waiting_at (connection_number i) exchanges ≡ forwarded_or_waiting
+  pub opened : (i : ℕ) → is_forwarded_if_open (connection_number_of_place i) exchanges ≡ is_forwarded_if_exchange
       (activity_at activities i)
-  pub numbered : forwarded_or_waiting_at 0 exchanges ≡ None
+  pub numbered : is_forwarded_if_open 0 exchanges ≡ None
 
 abbrev pub activities_of_connections : List (Option Connection) → List Activity
 activities_of_connections connections = map activity_of_connection connections
@@ -78,7 +78,8 @@ owners_of_links links = map owner_of_open_link links
 
 abbrev pub ConnectionsAndLinksOfStateArePaired : State → Type 0
 ConnectionsAndLinksOfStateArePaired e =
-    ConnectionsAndLinksArePaired (activities_of_connections e.connections) (owners_of_links e.links) e.core.exchanges
+    ConnectionsLinksAndExchangesMatch (activities_of_connections e.connections)
+    (owners_of_links e.links) e.core.exchanges
 
 -- the place of the connection that the link of this number belongs to, where it is open
 abbrev pub owner_of_link_number : State → ℕ → Option ℕ

@@ -17,11 +17,12 @@ use Rattle.hx_framing.specs.RequestStream.{StreamSpells}
 use Rattle.proxy_core.specs.Leading.{is_waiting}
 use Rattle.proxy_core.specs.Outcomes.{find_exchange}
 use Rattle.proxy_core.specs.declared.open.exchange.Exchange.{Exchange}
-use Rattle.proxy_engine.specs.ConnectionNumbers.{connection_number, connection_place, link_number, link_place}
-use Rattle.proxy_engine.specs.ConnectionNumbers.{link_with_number}
+use Rattle.proxy_engine.specs.ConnectionNumbers.{connection_number_of_place, place_of_connection_number}
+use Rattle.proxy_engine.specs.ConnectionNumbers.{link_number_of_place, link_place}
+use Rattle.proxy_engine.specs.ConnectionNumbers.{link_number_if_in_64_bits}
 use Rattle.proxy_engine.specs.Activities.{has_exchange, link_place_of_activity}
 use Rattle.proxy_engine.specs.EngineModel.{EngineModel, ConnectionModel, LinkModel, connection_at, link_at}
-use Rattle.proxy_engine.specs.EngineModel.{connection_accepts_bytes, link_accepts_bytes}
+use Rattle.proxy_engine.specs.EngineModel.{connection_accepts_input, link_accepts_input}
 use Rattle.proxy_engine.specs.declared.work.End.{End}
 use Rattle.proxy_engine.specs.declared.work.End.TheVariants as ends
 
@@ -37,33 +38,34 @@ connection_is_open_in_model c = not (c.gone || c.closed)
 
 -- it is open, has no open exchange, and its input hasn't ended
 abbrev pub connection_may_send_request : ConnectionModel → Bool
-connection_may_send_request c = connection_accepts_bytes c && not (has_exchange c.activity)
+connection_may_send_request c = connection_accepts_input c && not (has_exchange c.activity)
 
 -- it isn't dropped, and has failed
-abbrev pub link_has_failed : LinkModel → Bool
-link_has_failed k = not k.dropped && is_some k.failed
+abbrev pub open_link_model_has_failed : LinkModel → Bool
+open_link_model_has_failed k = not k.dropped && is_some k.failed
 
 -- the link at a place, where the first has this number
 abbrev pub link_end_at : ℕ → ℕ → End
-link_end_at first j = ends.Link (link_number first j)
+link_end_at first j = ends.Link (link_number_of_place first j)
 
 abbrev pub client_end_at : ℕ → End
-client_end_at i = ends.Client (connection_number i)
+client_end_at i = ends.Client (connection_number_of_place i)
 
 -- the links that aren't dropped, failed or shut, then the clients that may send a request
 abbrev pub readable_ends_of : EngineModel → List End
 readable_ends_of s =
-    map (link_end_at s.first) (places_with_flag link_accepts_bytes 0 s.links) ++ map client_end_at
+    map (link_end_at s.first) (places_with_flag link_accepts_input 0 s.links) ++ map client_end_at
     (places_with_flag connection_may_send_request 0 s.connections)
 
 -- of one end: no bytes come from where connections do, and an end that has no number is none
 abbrev pub end_may_send : EngineModel → End → Bool
 end_may_send s ends.Listener = false
-end_may_send s (ends.Client n) = nat_lt 0 n && connection_may_send_request (connection_at s (connection_place n))
-end_may_send s (ends.Link l) = nat_le s.first l && link_accepts_bytes (link_at s (link_place s.first l))
+end_may_send s (ends.Client n) =
+    nat_lt 0 n && connection_may_send_request (connection_at s (place_of_connection_number n))
+end_may_send s (ends.Link l) = nat_le s.first l && link_accepts_input (link_at s (link_place s.first l))
 
 abbrev pub failed_links : EngineModel → List End
-failed_links s = map (link_end_at s.first) (places_with_flag link_has_failed 0 s.links)
+failed_links s = map (link_end_at s.first) (places_with_flag open_link_model_has_failed 0 s.links)
 
 abbrev pub open_connection_count : EngineModel → ℕ
 open_connection_count s = length (places_with_flag connection_is_open_in_model 0 s.connections)
@@ -71,8 +73,8 @@ open_connection_count s = length (places_with_flag connection_is_open_in_model 0
 -- the number of the next connection, if one is left
 abbrev pub next_connection_number : EngineModel → Option ℕ
 next_connection_number s =
-    if nat_lt (connection_number (length s.connections))
-    (2 ^ 64) then Some (connection_number (length s.connections)) else None
+    if nat_lt (connection_number_of_place (length s.connections))
+    (2 ^ 64) then Some (connection_number_of_place (length s.connections)) else None
 
 -- it is between two requests: it may send one, and each byte that it has sent belongs to a request that was used
 pub record IsBetweenRequests (c : ConnectionModel) : Type 0 where
@@ -82,16 +84,17 @@ pub record IsBetweenRequests (c : ConnectionModel) : Type 0 where
 -- the link on which the request of a client went forward, if one did that isn't answered
 abbrev pub link_of_connection : EngineModel → ℕ → Option ℕ
 link_of_connection s n =
-    option_and_then (link_with_number s.first)
-    (link_place_of_activity (connection_at s (connection_place n)).activity)
+    option_and_then (link_number_if_in_64_bits s.first)
+    (link_place_of_activity (connection_at s (place_of_connection_number n)).activity)
 
 -- the place of the connection whose request is open on a link: there is none where that was dropped
 abbrev pub owner_place_of_link_model : LinkModel → Option ℕ
 owner_place_of_link_model k = if k.dropped then None else Some k.connection
 
 -- of the link of this number
-abbrev pub owner_of_number : EngineModel → ℕ → Option ℕ
-owner_of_number s l = if nat_le s.first l then owner_place_of_link_model (link_at s (link_place s.first l)) else None
+abbrev pub owner_of_link_with_number : EngineModel → ℕ → Option ℕ
+owner_of_link_with_number s l = if nat_le s.first l then owner_place_of_link_model
+    (link_at s (link_place s.first l)) else None
 
 -- the line over which the request of an exchange went forward
 abbrev pub line_of_exchange : Option Exchange → Option ℕ
@@ -100,11 +103,11 @@ line_of_exchange x = option_map (λ (x : Exchange). x.line.number) x
 -- the same of a connection's
 abbrev pub line_of_owners_exchange : List Exchange → Option ℕ → Option ℕ
 line_of_owners_exchange exchanges None = None
-line_of_owners_exchange exchanges (Some i) = line_of_exchange (find_exchange (connection_number i) exchanges)
+line_of_owners_exchange exchanges (Some i) = line_of_exchange (find_exchange (connection_number_of_place i) exchanges)
 
 -- the line over which the request that is open on the link of this number went forward
 abbrev pub line_of_link : EngineModel → ℕ → Option ℕ
-line_of_link s l = line_of_owners_exchange s.core.exchanges (owner_of_number s l)
+line_of_link s l = line_of_owners_exchange s.core.exchanges (owner_of_link_with_number s l)
 
 -- for how many seconds the request of an open exchange waits for the answer to another, where it does, by these lines
 abbrev pub wait_timeout_of_exchange : List Line → Option Exchange → Option ℕ

@@ -13,7 +13,7 @@ use Rattle.hx_hop.specs.declared.request_view.Asked.{Asked}
 use Rattle.proxy_core.specs.declared.event.Event.{Event}
 use Rattle.proxy_core.specs.declared.event.Event.TheVariants as events
 use Rattle.proxy_core.specs.Traces.{Item}
-use Rattle.proxy_engine.specs.ConnectionNumbers.{connection_number, connection_place}
+use Rattle.proxy_engine.specs.ConnectionNumbers.{connection_number_of_place, place_of_connection_number}
 use Rattle.proxy_engine.specs.Admitted.{RequestIsAdmittedOrRefused}
 use Rattle.proxy_engine.specs.Happenings.{Retires, Overdues}
 use Rattle.proxy_engine.specs.EngineModel.{EngineModel, connection_at, happening_fault, model_after_happening}
@@ -34,7 +34,7 @@ EventRequestClosesConnection n (events.Overdue id) = Unit {0}
 abbrev pub RetirementMarksItsConnection : Type 0
 RetirementMarksItsConnection =
     (s : EngineModel) (n : ℕ) → happening_fault s (Retires n) ≡ None
-    → (connection_at (model_after_happening s (Retires n)) (connection_place n)).retired ≡ true
+    → (connection_at (model_after_happening s (Retires n)) (place_of_connection_number n)).retired ≡ true
 
 -- From there, whatever an engine lives through, each request that comes on that connection is handed to the core as one
 -- that closes it: one at most, since behind a close nothing is read.
@@ -43,7 +43,7 @@ EachRequestAfterRetirementCloses =
     (table : Table) (begin last : EngineModel) (steps : List ExecutionStep) (trace : List Item) (i : ℕ)
     → i < length begin.connections → (connection_at begin i).retired ≡ true
     → StepsHaveTrace table begin steps last trace
-    → AllByRecursion (λ item. EventRequestClosesConnection (connection_number i) item.event) trace
+    → AllByRecursion (λ item. EventRequestClosesConnection (connection_number_of_place i) item.event) trace
 
 -- on a connection that isn't to end, a request is handed over as it is asked
 abbrev pub UnretiredRequestsAreHandedOverUnchanged : Type 0
@@ -51,4 +51,4 @@ UnretiredRequestsAreHandedOverUnchanged =
     (s : EngineModel) (now i : ℕ) (r : Request) (event : Event) → (connection_at s i).retired ≡ false
     → IsCoreEventOfAct s now (Serves i (next.Message r)) event
     → (asked : Asked) × RequestIsAdmittedOrRefused r (Ok asked)
-    × (event ≡ events.Arrive now (connection_number i) asked)
+    × (event ≡ events.Arrive now (connection_number_of_place i) asked)

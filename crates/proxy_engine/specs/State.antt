@@ -6,7 +6,7 @@
 -- link_result_at, due_request_at: what a look has found
 -- IsFirstPlaceFoundDue, IsFirstDueLinkFound, IsFirstDueConnectionFound: the first place at which it found something
 -- engine_work_left: a bound on the acts still to come
--- FirstDueActWasDone, NoActWasDoneBecauseOf, EachActLeavesLessWork: what a call of work did, or why it did nothing
+-- FirstDueActIfAnyWasDone, NoActWasDoneBecauseOf, EachActLeavesLessWork: what a call of work did, or why it did nothing
 use Rattle.std.specs.Prelude.{◌≡◌, ℕ, ◌+◌, ◌*◌, ◌<◌, ◌≤◌, ◌^◌, List, [], ◌∷◌, length, sum_by, ◌&&◌, ◌||◌, not, Bool}
 use Rattle.std.specs.Prelude.{true, false, Option, None, Some, slice_index_or, if◌then◌else◌}
 use Rattle.std.specs.Option.{option_map}
@@ -16,19 +16,19 @@ use Rattle.hx_framing.specs.declared.messages.Next.{Next}
 use Rattle.hx_framing.specs.declared.messages.Next.TheVariants as next
 use Rattle.hx_status.specs.declared.cause.FailKind.{FailKind}
 use Rattle.proxy_core.specs.State.{State as CoreState}
-use Rattle.proxy_engine.specs.ConnectionNumbers.{link_number}
+use Rattle.proxy_engine.specs.ConnectionNumbers.{link_number_of_place}
 use Rattle.proxy_engine.specs.Activities.{has_exchange}
 use Rattle.proxy_engine.specs.Happenings.{HappeningModel}
 use Rattle.proxy_engine.specs.declared.endpoints.lookahead.Lookahead.{Lookahead}
 use Rattle.proxy_engine.specs.declared.endpoints.lookahead.Lookahead.TheVariants.{Unknown, Quiet, Due}
 use Rattle.proxy_engine.specs.Lookahead.{one_if_maybe_due}
-use Rattle.proxy_engine.specs.Peeked.{RequestRepresents, ResponseRepresents, request_work_left}
+use Rattle.proxy_engine.specs.PeekableReader.{RequestRepresents, ResponseRepresents, request_reader_work_left}
 use Rattle.proxy_engine.specs.EngineModel.{EngineModel, ConnectionModel, LinkModel, no_connection, no_link}
 use Rattle.proxy_engine.specs.EngineModel.{happening_fault}
 use Rattle.proxy_engine.specs.EngineModel.{model_after_happening}
-use Rattle.proxy_engine.specs.Due.{LinkResult, Breaks, link_result_of, due_request_action, accepts_no_request}
-use Rattle.proxy_engine.specs.Due.{IsFirstAtWhich, IsDueOnLink, IsDueOnConnection, Act}
-use Rattle.proxy_engine.specs.Due.{IsDueFirst}
+use Rattle.proxy_engine.specs.Due.{LinkResult, Breaks, link_result_of_next, due_request_action, accepts_no_request}
+use Rattle.proxy_engine.specs.Due.{IsFirstAtWhich, IsDueLinkResult, IsDueOnConnection, Act}
+use Rattle.proxy_engine.specs.Due.{IsFirstDueAct}
 use Rattle.proxy_engine.specs.declared.endpoints.activities.Activity.{Activity}
 use Rattle.proxy_engine.specs.declared.endpoints.activities.Activity.TheVariants.{Free, Forwarded, Waiting}
 use Rattle.proxy_engine.specs.declared.endpoints.ends.Connection.{Connection}
@@ -92,14 +92,14 @@ pub record EnginePartsRepresentModel (cs : List (Option Connection)) (ks : List 
   pub links : ListsAreRelated LinkRepresents ks s.links
   pub core : kept ≡ s.core
   pub first : number ≡ s.first
-  pub numbers : link_number s.first (length s.links) ≤ 2 ^ 64
+  pub numbers : link_number_of_place s.first (length s.links) ≤ 2 ^ 64
 
 abbrev pub EngineRepresents : State → EngineModel → Type 0
 EngineRepresents e s = EnginePartsRepresentModel e.connections e.links e.core e.first s
 
 -- without room
-abbrev pub engine_state : List (Option Connection) → List (Option Link) → CoreState → ℕ → State
-engine_state connections links core first =
+abbrev pub engine_state_of_parts : List (Option Connection) → List (Option Link) → CoreState → ℕ → State
+engine_state_of_parts connections links core first =
     record { connections = connections; links = links; core = core; first = first; room = false }
 
 -- the happening was taken
@@ -122,38 +122,39 @@ IsFaultOfTakingHappening s h e = IsFaultOrOutOfMemory (happening_fault s h) e
 
 -- ---- what is known of what is due, by the lookahead of a reader
 
-abbrev pub link_result_seen : Lookahead Response → Option FailKind → Option LinkResult
-link_result_seen Unknown kind = option_map Breaks kind
-link_result_seen Quiet kind = option_map Breaks kind
-link_result_seen (Due a) kind = link_result_of a kind
+abbrev pub link_result_of_lookahead : Lookahead Response → Option FailKind → Option LinkResult
+link_result_of_lookahead Unknown kind = option_map Breaks kind
+link_result_of_lookahead Quiet kind = option_map Breaks kind
+link_result_of_lookahead (Due a) kind = link_result_of_next a kind
 
 abbrev pub link_result_at : Option Link → Option LinkResult
 link_result_at None = None
-link_result_at (Some k) = link_result_seen k.reader.ahead k.failed
+link_result_at (Some k) = link_result_of_lookahead k.reader.ahead k.failed
 
-abbrev pub due_request_seen : Lookahead Request → Option (Next Request)
-due_request_seen Unknown = None
-due_request_seen Quiet = None
-due_request_seen (Due a) = due_request_action a
+abbrev pub due_request_of_lookahead : Lookahead Request → Option (Next Request)
+due_request_of_lookahead Unknown = None
+due_request_of_lookahead Quiet = None
+due_request_of_lookahead (Due a) = due_request_action a
 
 abbrev pub due_request_at : Option Connection → Option (Next Request)
 due_request_at None = None
-due_request_at (Some c) = if accepts_no_request c.gone false c.activity then None else due_request_seen c.reader.ahead
+due_request_at
+    (Some c) = if accepts_no_request c.gone false c.activity then None else due_request_of_lookahead c.reader.ahead
 
 -- it isn't gone, and has no open exchange
-abbrev pub connection_is_free_at : Option Connection → Bool
-connection_is_free_at None = false
-connection_is_free_at (Some c) = not (accepts_no_request c.gone false c.activity)
+abbrev pub connection_is_open_and_idle : Option Connection → Bool
+connection_is_open_and_idle None = false
+connection_is_open_and_idle (Some c) = not (accepts_no_request c.gone false c.activity)
 
 -- whether it is gone, where it isn't over
-abbrev pub is_gone_at : Option Connection → Option Bool
-is_gone_at None = None
-is_gone_at (Some c) = Some c.gone
+abbrev pub is_gone_if_connection : Option Connection → Option Bool
+is_gone_if_connection None = None
+is_gone_if_connection (Some c) = Some c.gone
 
 -- whether it is to end
-abbrev pub is_retired_at : Option Connection → Bool
-is_retired_at None = false
-is_retired_at (Some c) = c.retired
+abbrev pub is_retired_connection : Option Connection → Bool
+is_retired_connection None = false
+is_retired_connection (Some c) = c.retired
 
 -- no connection is gone with an open exchange
 abbrev pub NoDisconnectedClientHasExchange : List (Option Connection) → Type 0
@@ -162,7 +163,7 @@ NoDisconnectedClientHasExchange cs = (i : ℕ) (c : Connection) → slice_index_
 
 -- R: what is kept of an end stands for it     P: what is due at it     seen: what a look has found
 -- something is seen at that place, and it is the first that is due, whatever the list stands for
-pub record IsFoundAt {A B C : Type 0} (R : Option A → B → Type 0) (P : B → Option C → Type 0) (d : B)
+pub record IsFirstDueFoundAt {A B C : Type 0} (R : Option A → B → Type 0) (P : B → Option C → Type 0) (d : B)
     (seen : Option A → Option C) (xs : List (Option A)) (i : ℕ) : Type 0 where
   pub due : C
   pub shown : seen (slice_index_or xs i None) ≡ Some due
@@ -173,10 +174,10 @@ abbrev pub IsFirstPlaceFoundDue : {A B C : Type 0} → (Option A → B → Type 
     (Option A → Option C)
     → List (Option A) → Option ℕ → Type 0
 IsFirstPlaceFoundDue {A} {B} R P d seen xs None = (ys : List B) → ListsAreRelated R xs ys → IsFirstAtWhich P d ys None
-IsFirstPlaceFoundDue R P d seen xs (Some i) = IsFoundAt R P d seen xs i
+IsFirstPlaceFoundDue R P d seen xs (Some i) = IsFirstDueFoundAt R P d seen xs i
 
 abbrev pub IsFirstDueLinkFound : List (Option Link) → Option ℕ → Type 0
-IsFirstDueLinkFound ks r = IsFirstPlaceFoundDue LinkRepresents IsDueOnLink no_link link_result_at ks r
+IsFirstDueLinkFound ks r = IsFirstPlaceFoundDue LinkRepresents IsDueLinkResult no_link link_result_at ks r
 
 abbrev pub IsFirstDueConnectionFound : List (Option Connection) → Option ℕ → Type 0
 IsFirstDueConnectionFound cs r =
@@ -200,9 +201,9 @@ work_left_of_waiting (Forwarded place) = 0
 work_left_of_waiting Waiting = 2
 
 -- a message or a continue counts three, a connection that isn't over one, and one whose request waits two more
-abbrev pub connection_work_left : Option Connection → ℕ
-connection_work_left None = 0
-connection_work_left (Some c) = 3 * request_work_left c.reader + (1 + work_left_of_waiting c.activity)
+abbrev pub work_left_of_connection : Option Connection → ℕ
+work_left_of_connection None = 0
+work_left_of_connection (Some c) = 3 * request_reader_work_left c.reader + (1 + work_left_of_waiting c.activity)
 
 -- an answer that may stand there counts one, and so does a failure
 abbrev pub work_left_of_link_result : Lookahead Response → Option FailKind → ℕ
@@ -211,13 +212,13 @@ work_left_of_link_result ahead (Some kind) = 1
 
 -- a link that isn't dropped counts one, and what may stand on it one more: so a request that goes forward again leaves
 -- less
-abbrev pub link_work_left : Option Link → ℕ
-link_work_left None = 0
-link_work_left (Some k) = 1 + work_left_of_link_result k.reader.ahead k.failed
+abbrev pub work_left_of_link : Option Link → ℕ
+work_left_of_link None = 0
+work_left_of_link (Some k) = 1 + work_left_of_link_result k.reader.ahead k.failed
 
 -- no more acts than this are due, one after another, while nothing is taken
 abbrev pub engine_work_left : List (Option Connection) → List (Option Link) → ℕ
-engine_work_left connections links = sum_by connection_work_left connections + sum_by link_work_left links
+engine_work_left connections links = sum_by work_left_of_connection connections + sum_by work_left_of_link links
 
 abbrev pub work_left_of_state : State → ℕ
 work_left_of_state e = engine_work_left e.connections e.links
@@ -240,9 +241,9 @@ abbrev pub EngineDoesAct : EngineModel → ℕ → Act → List Effect → State
 EngineDoesAct s now act effects new = EnginePartsDoAct s now act effects new.connections new.links new.core new.first
 
 -- the first act that was due was done at this moment, or none was due
-abbrev pub FirstDueActWasDone : EngineModel → ℕ → Work → State → Type 0
-FirstDueActWasDone s now work.Idle new = IsDueFirst s None × EngineRepresents new s
-FirstDueActWasDone s now (work.Did effects) new = (act : Act) × IsDueFirst s (Some act)
+abbrev pub FirstDueActIfAnyWasDone : EngineModel → ℕ → Work → State → Type 0
+FirstDueActIfAnyWasDone s now work.Idle new = IsFirstDueAct s None × EngineRepresents new s
+FirstDueActIfAnyWasDone s now (work.Did effects) new = (act : Act) × IsFirstDueAct s (Some act)
     × EngineDoesAct s now act effects.items new
 
 -- no act was done: because memory ran out, or because the act that is due may need a link and no number is left
@@ -251,7 +252,7 @@ NoActWasDoneBecauseOf s WrongNumber = ⊥
 NoActWasDoneBecauseOf s NotAccepted = ⊥
 NoActWasDoneBecauseOf s NotWaiting = ⊥
 NoActWasDoneBecauseOf s OutOfMemory = Unit {0}
-NoActWasDoneBecauseOf s Spent = (act : Act) × IsDueFirst s (Some act) × ActMayForward act
+NoActWasDoneBecauseOf s Spent = (act : Act) × IsFirstDueAct s (Some act) × ActMayForward act
     × (2 ^ 64 ≤ next_link_number s)
 
 -- each act leaves less to do

@@ -4,7 +4,7 @@ ghost use Rattle.std.specs.Prelude.{option_copied};
 ghost use Rattle.std.specs.Prelude.{Err, true};
 ghost use Rattle.proxy_core.specs.AnsweredRequests.{request_of_exchange};
 ghost use Rattle.proxy_core.specs.Outcomes.{find_exchange};
-ghost use Rattle.proxy_core.specs.Starts.{StartIsValid};
+ghost use Rattle.proxy_core.specs.Starts.{StoreAtStartIsValid};
 ghost use Rattle.proxy_core.specs.State.{bounds_of};
 ghost use Rattle.proxy_core.specs.Traces.{initial_state};
 ghost use Rattle.proxy_engine.specs.EngineModel.{EngineModel, connection_at, happening_adds_connection_or_bytes};
@@ -26,7 +26,7 @@ use crate::endpoints::numbers::{ConnectionPlace, LinkPlace};
 use crate::endpoints::open_ends::Ends;
 use crate::takes;
 use crate::work::{End, EngineFault};
-use hx_allow::Config;
+use hx_allow::Table;
 use hx_hop::Asked;
 use hx_store::Shelf;
 use proxy_core::{Core, Stage};
@@ -95,7 +95,7 @@ impl<S: Shelf + Drop> Drop for Engine<S> {
 }
 
 impl<S: Shelf> Model for Engine<S> {
-    ghost use Rattle.proxy_engine.specs.State.{State, engine_state};
+    ghost use Rattle.proxy_engine.specs.State.{State, engine_state_of_parts};
     ghost use Rattle.proxy_engine.specs.Pairing.{ConnectionsAndLinksOfStateArePaired};
 
     ghost Value = { State };
@@ -109,13 +109,13 @@ impl<S: Shelf> Model for Engine<S> {
     } };
 
     ghost invariant = { λ e. ConnectionsAndLinksOfStateArePaired
-        (engine_state e.ends.connections.items e.ends.links.items e.core e.ends.first_link) };
+        (engine_state_of_parts e.ends.connections.items e.ends.links.items e.core e.ends.first_link) };
 }
 
 impl<S: Shelf> Engine<S> {
     /// An engine that nothing has happened to. The shelf is empty and has the configured capacity; serials of
     /// stored responses begin at `first_serial`, 1 or more, numbers of links at `first_link`.
-    pub fn new(alloc: Global, config: Config, shelf: S, first_serial: u64, first_link: u64) -> Self
+    pub fn new(alloc: Global, config: Table, shelf: S, first_serial: u64, first_link: u64) -> Self
         requires { S.entries shelf ≡ [] }
         ensures { EngineRepresents result (new_engine_model
             (record {
@@ -140,12 +140,12 @@ impl<S: Shelf> Engine<S> {
     /// which the serials go on, and within the bounds of the shelf and of the table's `max_store`.
     pub fn with_store(
         alloc: Global,
-        config: Config,
+        config: Table,
         shelf: S,
         first_serial: u64,
         first_link: u64,
     ) -> Self
-        requires { StartIsValid (bounds_of config (S.limit shelf)) (Some first_serial) (S.entries shelf) }
+        requires { StoreAtStartIsValid (bounds_of config (S.limit shelf)) (Some first_serial) (S.entries shelf) }
         ensures { EngineRepresents result (new_engine_model
             (initial_state config (record { limit = S.limit shelf; entries = S.entries shelf }) first_serial)
             first_link) }
@@ -169,13 +169,13 @@ impl<S: Shelf> Engine<S> {
 
     /// The shelf with what it holds, and the next serial if one is left: what another engine may begin with, where no
     /// exchange is open.
-    pub fn into_shelf_and_serial(self) -> (S, Option<u64>)
+    pub fn into_shelf_and_next_serial(self) -> (S, Option<u64>)
         ensures entries { S.entries result.0 ≡ self.core.entries }
         ensures limit { S.limit result.0 ≡ self.core.limit }
         ensures next { result.1 ≡ self.core.next }
     {
         let Engine { ends: _, core } = self;
-        core.into_shelf_and_serial()
+        core.into_shelf_and_next_serial()
     }
 
     /// Takes what happened. An `Err` changes nothing, and says out of memory only where no other refusal stands.
@@ -210,7 +210,7 @@ impl<S: Shelf> Engine<S> {
                 bytes,
             ),
             Happening::End(n) => takes::note_end_of_client_input(&mut self.ends.connections, n),
-            Happening::Gone(n) => takes::disconnect_client(&mut self.ends.connections, n),
+            Happening::Gone(n) => takes::note_client_left(&mut self.ends.connections, n),
             Happening::Retire(n) => takes::retire_client(&mut self.ends.connections, n),
             Happening::Overdue(n) => self.overdue(n),
             Happening::Shut(l) => takes::note_end_of_link_input(
@@ -236,7 +236,7 @@ impl<S: Shelf> Engine<S> {
         ensures memory { IfErr result (λ fault. fault ≡ EngineFault.NotWaiting) }
         ensures unchanged { OnErr result (self.new ≡ self.old) }
     {
-        match self.core.overdue(n) {
+        match self.core.end_wait_on_timeout(n) {
             Ok(_) => {}
             Err(_) => return Err(EngineFault::NotWaiting),
         }
@@ -268,11 +268,11 @@ impl<S: Shelf> Engine<S> {
             End::Client(n) => self
                 .ends
                 .connections
-                .reserve_piece(ConnectionPlace::of_number(n)),
+                .reserve_room_for_read(ConnectionPlace::of_number(n)),
             End::Link(l) => self
                 .ends
                 .links
-                .reserve_piece(LinkPlace::of_number(l, self.ends.first_link)),
+                .reserve_room_for_read(LinkPlace::of_number(l, self.ends.first_link)),
         }
     }
 
@@ -288,7 +288,7 @@ impl<S: Shelf> Engine<S> {
     }
 
     /// The number of the next connection, if one is left.
-    pub fn next_connection(&self) -> Option<u64>
+    pub fn number_of_next_connection(&self) -> Option<u64>
         ensures { (s : EngineModel) → EngineRepresents self.now s → result ≡ next_connection_number s }
     {
         self.ends.connections.next_number()
@@ -305,7 +305,7 @@ impl<S: Shelf> Engine<S> {
     /// Whether a client is between two requests: it is open, has no open exchange, its input hasn't ended, and each
     /// byte that it has sent belongs to a request that was used. So nothing is lost where it is taken as gone, and its
     /// stream goes on under another number.
-    pub fn is_between_requests(&self, n: u64) -> bool
+    pub fn is_client_between_requests(&self, n: u64) -> bool
         ensures { (s : EngineModel) → EngineRepresents self.now s → result ≡ true → IsBetweenRequests
             (connection_at s (n - 1)) }
     {
@@ -394,8 +394,8 @@ impl<S: Shelf> Engine<S> {
         let mut ends = Vec::new(alloc);
         self.ends
             .links
-            .push_readable(self.ends.first_link, &mut ends)?;
-        self.ends.connections.push_readable(&mut ends)?;
+            .append_readable_ends(self.ends.first_link, &mut ends)?;
+        self.ends.connections.append_readable_ends(&mut ends)?;
         Ok(ends)
     }
 
@@ -407,7 +407,7 @@ impl<S: Shelf> Engine<S> {
         let mut ends = Vec::new(alloc);
         self.ends
             .links
-            .push_failed(self.ends.first_link, &mut ends)?;
+            .push_failed_links(self.ends.first_link, &mut ends)?;
         Ok(ends)
     }
 }

@@ -1,19 +1,20 @@
 //! Laws on the definitions that the contracts cite.
 ghost use Rattle.std.specs.Prelude.{◌≡◌, Option};
 ghost use Rattle.proxy_engine.specs.EngineModel.{EngineModel};
-ghost use Rattle.proxy_engine.specs.Due.{Act, IsDueFirst};
+ghost use Rattle.proxy_engine.specs.Due.{Act, IsFirstDueAct};
 ghost use Rattle.proxy_engine.specs.Drops.{ActHasFewEffects, EachDroppedLinkIsEmitted, HappeningsDropNoLink};
 ghost use Rattle.proxy_engine.specs.Executions.{ActIsDoneInOneWay, StepsHaveOneTrace, CoreStepsOfExecutionsAreGoodRuns};
 ghost use Rattle.proxy_engine.specs.FinalAnswers.{EachDueActIsSpelledByItsStream, EachAnswerHasFinalStatus};
 ghost use Rattle.proxy_engine.specs.FinalAnswers.{EachAnswerWasReadFromAStream};
-ghost use Rattle.proxy_engine.specs.Exhausted.{OutOfMemoryNeverHidesExhaustedAnswer};
-ghost use Rattle.proxy_engine.specs.Exhausted.{OutOfMemoryNeverHidesExhaustedWake};
+ghost use Rattle.proxy_engine.specs.Exhausted.{ExhaustedNumbersAreReportedAtAnswer};
+ghost use Rattle.proxy_engine.specs.Exhausted.{OutOfMemoryNeverHidesNoLinkNumberForWake};
 ghost use Rattle.proxy_engine.specs.Orderly.{NewModelIsConsistent, HappeningKeepsModelConsistent};
 ghost use Rattle.proxy_engine.specs.Orderly.{ActKeepsModelConsistent};
 ghost use Rattle.proxy_engine.specs.Orderly.{EndedEndsStayEndedAfterHappening, EndedEndsStayEndedAfterAct};
 ghost use Rattle.proxy_engine.specs.Retired.{RetirementMarksItsConnection, EachRequestAfterRetirementCloses};
 ghost use Rattle.proxy_engine.specs.Retired.{UnretiredRequestsAreHandedOverUnchanged};
-ghost use Rattle.proxy_engine.specs.SendingEnds.{SendingEndHasNumber, ReadableEndsMaySend, SendingEndIsReadable};
+ghost use Rattle.proxy_engine.specs.SendingEnds.{EndWhosePeerMaySendHasNumber, ReadableEndsMaySend};
+ghost use Rattle.proxy_engine.specs.SendingEnds.{EndWhosePeerMaySendIsReadable};
 ghost use Rattle.proxy_engine.specs.SendingEnds.{AcceptAddsReadableEnd, EndsMaySendAsBeforeAccept};
 
 mod end_cases;
@@ -26,16 +27,16 @@ pub use end_cases::{
     worked_work_left,
 };
 use hx_framing::laws::response_laws::responses_read_are_final;
-use hx_hop::laws::asked_request_is_unique;
+use hx_hop::laws::request_is_asked_in_one_way;
 pub use model_cases::{
     worked_addresses_of_outcomes, worked_due_acts, worked_effects_of_acts, worked_effects_of_steps,
     worked_faults_of_happenings, worked_happenings,
 };
-pub use run_laws::{a_run_refuses_what_was_not_done, replies_are_reported_truthfully};
+pub use run_laws::{a_run_refuses_what_was_not_done, effects_report_replies_truthfully};
 
 /// One act is due first, or none is: so `work` has no choice.
 pub fn one_act_is_due_first()
-    ensures { (s : EngineModel) → (a b : Option Act) → IsDueFirst s a → IsDueFirst s b → a ≡ b }
+    ensures { (s : EngineModel) → (a b : Option Act) → IsFirstDueAct s a → IsFirstDueAct s b → a ≡ b }
 {}
 
 /// No effect names a connection after its close, or one that is gone; a link that ends is dropped once. It holds of
@@ -64,9 +65,9 @@ pub fn a_retired_connection_closes_at_its_next_request()
 /// Bytes may come from the readable ends, and from no others; each of them is there. One more connection is one more of
 /// them, behind the others, which stay.
 pub fn readable_ends_may_send()
-    ensures numbered { SendingEndHasNumber }
+    ensures numbered { EndWhosePeerMaySendHasNumber }
     ensures each { ReadableEndsMaySend }
-    ensures no_other { SendingEndIsReadable }
+    ensures no_other { EndWhosePeerMaySendIsReadable }
     ensures accept { AcceptAddsReadableEnd }
     ensures kept { EndsMaySendAsBeforeAccept }
 {}
@@ -86,14 +87,14 @@ pub fn each_drop_is_emitted()
 pub fn an_act_is_done_in_one_way()
     ensures { ActIsDoneInOneWay }
 {
-    asked_request_is_unique();
+    request_is_asked_in_one_way();
 }
 
 /// What an engine lives through has one trace: each act asks the core about one event, or about none.
 pub fn an_execution_has_one_trace()
     ensures { StepsHaveOneTrace }
 {
-    asked_request_is_unique();
+    request_is_asked_in_one_way();
 }
 
 /// Whatever takes happenings and does what is due, from an engine to which nothing has happened on: the steps of its
@@ -117,9 +118,10 @@ pub fn answers_have_a_final_status()
 }
 
 /// Where a waiting request or an answer is the first that is due, the links that come before it are known, and no
-/// number is left for one more link, `work` doesn't say that memory ran out: `ReportsLinkNumbersExhausted`, which it
+/// number is left for one more link, `work` doesn't say that memory ran out: `LinkNumberIsLeftIfActMayForward`, which
+/// it
 /// ensures then, is false of such a state.
 pub fn out_of_memory_never_hides_exhausted_link_numbers()
-    ensures wakes { OutOfMemoryNeverHidesExhaustedWake }
-    ensures answers { OutOfMemoryNeverHidesExhaustedAnswer }
+    ensures wakes { OutOfMemoryNeverHidesNoLinkNumberForWake }
+    ensures answers { ExhaustedNumbersAreReportedAtAnswer }
 {}

@@ -14,7 +14,7 @@ mod takes;
 mod work;
 
 pub use crate::endpoints::lookahead::Lookahead;
-pub use crate::endpoints::peeked::Peeked;
+pub use crate::endpoints::peeked::PeekableReader;
 pub use crate::endpoints::readers::Reader;
 pub use crate::engine::Engine;
 pub use crate::work::{End, EngineFault, Work};

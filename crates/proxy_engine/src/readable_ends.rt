@@ -4,19 +4,20 @@ ghost use Rattle.std.specs.Prelude.{Contains, Some, is_some};
 ghost use Rattle.std.specs.Option.{option_copied};
 ghost use Rattle.std.specs.Ordering.{nat_cmp};
 ghost use Rattle.std.specs.BTreeMap.{get};
-ghost use Rattle.proxy_engine.specs.Held.{open_end_has_flag, holds_of_any_end, connection_may_send, link_may_send};
-ghost use Rattle.proxy_engine.specs.Held.{link_failed};
-ghost use Rattle.proxy_engine.specs.Marked.{DiffersOnlyInSpareRoom, PlacesAreRelated, NoEndIsOpenBeyond};
+ghost use Rattle.proxy_engine.specs.Held.{open_end_has_flag, is_true_of_every_end, client_of_connection_may_send};
+ghost use Rattle.proxy_engine.specs.Held.{link_may_send};
+ghost use Rattle.proxy_engine.specs.Held.{open_link_has_failed};
+ghost use Rattle.proxy_engine.specs.Marked.{DiffersOnlyInSpareRoom, ContentsOfPlacesAreRelated, NoEndIsOpenBeyond};
 ghost use Rattle.proxy_engine.specs.ReadyList.{entries_below, PlacesAscend, PlacesAreBelow};
 ghost use Rattle.proxy_engine.specs.Reading.{places_with_flag, client_end_at, link_end_at, IsBetweenRequests};
 ghost use Rattle.proxy_engine.specs.State.{ConnectionMatchesModel};
 ghost use Rattle.proxy_engine.specs.EngineModel.{ConnectionModel};
-ghost use Rattle.proxy_engine.specs.Room.{HasSpareBytes, SpareRoomIsReleased, most_bytes_of_read};
+ghost use Rattle.proxy_engine.specs.Room.{HasRoomForBytes, SpareRoomIsReleased, most_bytes_of_read};
 
 use crate::endpoints::boxed::Boxed;
 use crate::endpoints::endpoint::Endpoint;
 use crate::endpoints::ends::{Connection, Link};
-use crate::endpoints::numbers::{connection_number, link_number};
+use crate::endpoints::numbers::{connection_number_of_place, link_number_of_place};
 use crate::work::End;
 use std::alloc::{AllocError, Global};
 use std::collections::BTreeMap;
@@ -26,7 +27,7 @@ const PIECE: usize = 4096;
 
 /// Whether bytes may come from the client.
 pub(crate) fn reads(connection: &Connection) -> bool
-    ensures { result ≡ connection_may_send connection.now }
+    ensures { result ≡ client_of_connection_may_send connection.now }
 {
     !connection.gone && !connection.ended && !connection.activity.has_exchange()
 }
@@ -48,32 +49,33 @@ pub(crate) fn answers(link: &Link) -> bool
 /// How many ends are at places below a count, where none is beyond: one may be at the count, where the next will be.
 pub(crate) fn open_end_count(ends: &BTreeMap<u64, Boxed<Connection>>, count: u64) -> usize
     requires { NoEndIsOpenBeyond count (get nat_cmp ends.now) }
-    ensures { result ≡ length (places_with_flag (open_end_has_flag holds_of_any_end) 0 (entries_below ends.now count)) }
+    ensures { result
+        ≡ length (places_with_flag (open_end_has_flag is_true_of_every_end) 0 (entries_below ends.now count)) }
 {
     let beyond = if ends.contains_key(&count) { 1 } else { 0 };
     ends.len().saturating_sub(beyond)
 }
 
 /// Adds the clients from which bytes may come, of those at places below a count.
-pub(crate) fn push_clients(
+pub(crate) fn push_readable_clients(
     ends: &BTreeMap<u64, Boxed<Connection>>,
     count: u64,
     list: &mut Vec<End>,
 ) -> Result<(), AllocError>
     ensures { OnOk result (list.new.items ≡ list.old.items
         ++ map client_end_at
-        (places_with_flag (open_end_has_flag connection_may_send) 0 (entries_below ends.now count))) }
+        (places_with_flag (open_end_has_flag client_of_connection_may_send) 0 (entries_below ends.now count))) }
 {
     for (i, connection) in ends {
         if *i < count && reads(connection.get()) {
-            list.push(End::Client(connection_number(*i)))?;
+            list.push(End::Client(connection_number_of_place(*i)))?;
         }
     }
     Ok(())
 }
 
 /// Adds the links from which bytes may come, of those at places below a count. The first link has this number.
-pub(crate) fn push_links(
+pub(crate) fn push_readable_links(
     ends: &BTreeMap<u64, Boxed<Link>>,
     count: u64,
     first: u64,
@@ -85,7 +87,7 @@ pub(crate) fn push_links(
 {
     for (j, link) in ends {
         if *j < count && answers(link.get()) {
-            list.push(End::Link(link_number(first, *j)))?;
+            list.push(End::Link(link_number_of_place(first, *j)))?;
         }
     }
     Ok(())
@@ -93,7 +95,7 @@ pub(crate) fn push_links(
 
 /// Whether a link is at a place that has failed.
 fn has_failed_at(ends: &BTreeMap<u64, Boxed<Link>>, place: u64) -> bool
-    ensures { result ≡ open_end_has_flag link_failed (get nat_cmp ends.now place) }
+    ensures { result ≡ open_end_has_flag open_link_has_failed (get nat_cmp ends.now place) }
 {
     match end_at(ends, place) {
         Some(link) => link.failed.is_some(),
@@ -103,7 +105,7 @@ fn has_failed_at(ends: &BTreeMap<u64, Boxed<Link>>, place: u64) -> bool
 
 /// Adds the links that have failed, of those at places below a count. Each is at one of the given places, the least
 /// first, and no other is looked at. The first link has this number.
-pub(crate) fn push_failed(
+pub(crate) fn push_failed_links(
     ends: &BTreeMap<u64, Boxed<Link>>,
     places: &[u64],
     count: u64,
@@ -112,15 +114,15 @@ pub(crate) fn push_failed(
 ) -> Result<(), AllocError>
     requires rises { PlacesAscend places.now }
     requires below { PlacesAreBelow count places.now }
-    requires marked { (j : ℕ) (link : Link) → get nat_cmp ends.now j ≡ Some link → link_failed link ≡ true
+    requires marked { (j : ℕ) (link : Link) → get nat_cmp ends.now j ≡ Some link → open_link_has_failed link ≡ true
         → Contains places.now j }
     ensures { OnOk result (first + count ≤ 2 ^ 64 → list.new.items ≡ list.old.items
         ++ map (link_end_at first)
-        (places_with_flag (open_end_has_flag link_failed) 0 (entries_below ends.now count))) }
+        (places_with_flag (open_end_has_flag open_link_has_failed) 0 (entries_below ends.now count))) }
 {
     for place in places {
         if has_failed_at(ends, *place) {
-            list.push(End::Link(link_number(first, *place)))?;
+            list.push(End::Link(link_number_of_place(first, *place)))?;
         }
     }
     Ok(())
@@ -153,11 +155,11 @@ pub(crate) fn reserve_piece_at<E: Endpoint>(
     ends: &mut BTreeMap<u64, Boxed<E>>,
     place: u64,
 ) -> Result<(), AllocError>
-    ensures grows { PlacesAreRelated (DiffersOnlyInSpareRoom E.LooksLike E.may_show) (get nat_cmp ends.old)
+    ensures grows { ContentsOfPlacesAreRelated (DiffersOnlyInSpareRoom E.LooksLike E.may_show) (get nat_cmp ends.old)
         (get nat_cmp ends.new) }
     ensures others { (q : ℕ) → q ≢ place → get nat_cmp ends.new q ≡ get nat_cmp ends.old q }
     ensures size { length ends.new.entries ≡ length ends.old.entries }
-    ensures ok { OnOk result (HasSpareBytes E.spare (get nat_cmp ends.new place) most_bytes_of_read) }
+    ensures ok { OnOk result (HasRoomForBytes E.spare (get nat_cmp ends.new place) most_bytes_of_read) }
     ensures err { OnErr result (get nat_cmp ends.new place ≡ get nat_cmp ends.old place) }
 {
     match ends.get_mut(&place) {
@@ -172,7 +174,7 @@ pub(crate) fn release_room_of_end_at<E: Endpoint>(
     place: u64,
     alloc: Global,
 )
-    ensures alike { PlacesAreRelated (DiffersOnlyInSpareRoom E.LooksLike E.may_show) (get nat_cmp ends.old)
+    ensures alike { ContentsOfPlacesAreRelated (DiffersOnlyInSpareRoom E.LooksLike E.may_show) (get nat_cmp ends.old)
         (get nat_cmp ends.new) }
     ensures others { (q : ℕ) → q ≢ place → get nat_cmp ends.new q ≡ get nat_cmp ends.old q }
     ensures size { length ends.new.entries ≡ length ends.old.entries }

@@ -3,7 +3,8 @@ ghost use Rattle.std.specs.Prelude.{◌≡◌, ◌≢◌, ℕ, ◌+◌, ◌-◌,
 ghost use Rattle.std.specs.Prelude.{List, length, true, false, is_some, IsOk, IfErr, OnOk};
 ghost use Rattle.std.specs.Prelude.{OnErr, Option, Some, None, Err, MatchOption, slice_index_or};
 ghost use Rattle.proxy_core.specs.State.{State as CoreState};
-ghost use Rattle.proxy_engine.specs.ConnectionNumbers.{connection_number, connection_place, link_place};
+ghost use Rattle.proxy_engine.specs.ConnectionNumbers.{connection_number_of_place, place_of_connection_number};
+ghost use Rattle.proxy_engine.specs.ConnectionNumbers.{link_place};
 ghost use Rattle.proxy_engine.specs.Happenings.{Accepts, Sends, Hears, Ends, Leaves, Retires, Overdues, Shuts, Fails};
 ghost use Rattle.proxy_engine.specs.EngineModel.{EngineModel, ConnectionModel, LinkModel, connection_after_bytes};
 ghost use Rattle.proxy_engine.specs.EngineModel.{connection_after_end, connection_after_disconnect};
@@ -11,19 +12,20 @@ ghost use Rattle.proxy_engine.specs.EngineModel.{connection_after_retirement, li
 ghost use Rattle.proxy_engine.specs.EngineModel.{link_after_end, link_after_its_failure};
 ghost use Rattle.proxy_engine.specs.Activities.{has_exchange};
 ghost use Rattle.proxy_engine.specs.Pairing.{activities_of_connections, owners_of_links};
-ghost use Rattle.proxy_engine.specs.Room.{ConnectionReaderHasSpareBytes, LinkReaderHasSpareBytes};
-ghost use Rattle.proxy_engine.specs.State.{EngineRepresents, ConnectionRepresents, LinkRepresents, engine_state};
+ghost use Rattle.proxy_engine.specs.Room.{ConnectionReaderHasRoomFor, LinkReaderHasRoomFor};
+ghost use Rattle.proxy_engine.specs.State.{EngineRepresents, ConnectionRepresents, LinkRepresents};
+ghost use Rattle.proxy_engine.specs.State.{engine_state_of_parts};
 ghost use Rattle.proxy_engine.specs.State.{EngineTakesHappening};
 ghost use Rattle.proxy_engine.specs.EndChanges.{ConnectionsTakeHappening, ConnectionsRefuseHappening};
-ghost use Rattle.proxy_engine.specs.EndChanges.{ConnectionsStoreBytesOfHappening};
-ghost use Rattle.proxy_engine.specs.EndChanges.{LinksTakeHappening, LinksRefuseHappening, LinksStoreBytesOfHappening};
+ghost use Rattle.proxy_engine.specs.EndChanges.{HappeningAddsToConnections};
+ghost use Rattle.proxy_engine.specs.EndChanges.{LinksTakeHappening, LinksRefuseHappening, HappeningAddsBytesToLinks};
 
 use crate::endpoints::activities::Activity;
 use crate::endpoints::connections::Connections;
 use crate::endpoints::ends::{Connection, Link};
 use crate::endpoints::links::Links;
 use crate::endpoints::numbers::{ConnectionPlace, LinkPlace};
-use crate::endpoints::peeked::Peeked;
+use crate::endpoints::peeked::PeekableReader;
 use crate::work::EngineFault;
 use hx_framing::RequestReader;
 use hx_status::FailKind;
@@ -32,7 +34,7 @@ use std::alloc::{AllocError, Global};
 /// Where the connection of this number stands.
 fn find_connection(connections: &Connections, n: u64) -> Option<ConnectionPlace>
     ensures { MatchOption result (nat_lt 0 n && nat_le n (length connections.now.items) ≡ false)
-        (λ i. (nat_lt 0 n && nat_le n (length connections.now.items) ≡ true) × (i ≡ connection_place n)
+        (λ i. (nat_lt 0 n && nat_le n (length connections.now.items) ≡ true) × (i ≡ place_of_connection_number n)
         × (i < length connections.now.items)) }
 {
     if 0 < n && n <= connections.len() {
@@ -143,7 +145,7 @@ fn fail_link(link: &mut Link, kind: FailKind)
 
 /// Whether that is the next number.
 fn is_next(connections: &Connections, n: u64) -> bool
-    ensures { result ≡ (n == connection_number (length connections.now.items)) }
+    ensures { result ≡ (n == connection_number_of_place (length connections.now.items)) }
 {
     n != 0 && ConnectionPlace::of_number(n).key() == connections.len()
 }
@@ -155,8 +157,9 @@ pub(crate) fn accept(
     n: u64,
 ) -> Result<(), EngineFault>
     ensures ok { OnOk result ((s : EngineModel) → (links : List (Option Link)) → (core : CoreState) → (first : ℕ)
-        → core.table.max_body ≡ max_body → EngineRepresents (engine_state connections.old.items links core first) s
-        → EngineTakesHappening s (Accepts n) (engine_state connections.new.items links core first)) }
+        → core.table.max_body ≡ max_body
+        → EngineRepresents (engine_state_of_parts connections.old.items links core first) s
+        → EngineTakesHappening s (Accepts n) (engine_state_of_parts connections.new.items links core first)) }
     ensures fault { IfErr result (ConnectionsRefuseHappening connections.old.items (Accepts n)) }
     ensures activities { OnOk result
         (activities_of_connections connections.new.items ≡ activities_of_connections connections.old.items
@@ -167,7 +170,7 @@ pub(crate) fn accept(
     if !is_next(connections, n) {
         return Err(EngineFault::WrongNumber);
     }
-    let reader = Peeked::new(RequestReader::new(alloc, max_body));
+    let reader = PeekableReader::new(RequestReader::new(alloc, max_body));
     let connection = Connection {
         reader,
         ended: false,
@@ -190,8 +193,9 @@ pub(crate) fn take_client_bytes(
         (ConnectionsTakeHappening connections.old.items connections.new.items (Sends n bytes.now)) }
     ensures fault { IfErr result (ConnectionsRefuseHappening connections.old.items (Sends n bytes.now)) }
     ensures kept { result ≡ Err EngineFault.OutOfMemory
-        → ConnectionsStoreBytesOfHappening connections.old.items (Sends n bytes.now) }
-    ensures reserved { ConnectionReaderHasSpareBytes (slice_index_or connections.old.items (connection_place n) None)
+        → HappeningAddsToConnections connections.old.items (Sends n bytes.now) }
+    ensures reserved { ConnectionReaderHasRoomFor
+        (slice_index_or connections.old.items (place_of_connection_number n) None)
         (length bytes.now)
         → result ≢ Err EngineFault.OutOfMemory }
     ensures activities { activities_of_connections connections.new.items
@@ -230,7 +234,7 @@ pub(crate) fn note_end_of_client_input(
     Ok(())
 }
 
-pub(crate) fn disconnect_client(connections: &mut Connections, n: u64) -> Result<(), EngineFault>
+pub(crate) fn note_client_left(connections: &mut Connections, n: u64) -> Result<(), EngineFault>
     ensures ok { OnOk result (ConnectionsTakeHappening connections.old.items connections.new.items (Leaves n)) }
     ensures fault { IfErr result (ConnectionsRefuseHappening connections.old.items (Leaves n)) }
     ensures memory { IfErr result (λ e. e ≡ EngineFault.NotAccepted) }
@@ -275,8 +279,8 @@ pub(crate) fn take_link_bytes(
     ensures ok { OnOk result (LinksTakeHappening first links.old.items links.new.items (Hears l bytes.now)) }
     ensures fault { IfErr result (LinksRefuseHappening first links.old.items (Hears l bytes.now)) }
     ensures kept { result ≡ Err EngineFault.OutOfMemory
-        → LinksStoreBytesOfHappening first links.old.items (Hears l bytes.now) }
-    ensures reserved { LinkReaderHasSpareBytes (slice_index_or links.old.items (link_place first l) None)
+        → HappeningAddsBytesToLinks first links.old.items (Hears l bytes.now) }
+    ensures reserved { LinkReaderHasRoomFor (slice_index_or links.old.items (link_place first l) None)
         (length bytes.now)
         → result ≢ Err EngineFault.OutOfMemory }
     ensures owners { owners_of_links links.new.items ≡ owners_of_links links.old.items }

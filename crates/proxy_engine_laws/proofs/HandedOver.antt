@@ -13,9 +13,9 @@ use Rattle.hx_hop.specs.Asking.{asked_with_judged_target, asked_with_target}
 use Rattle.proxy_core.specs.declared.event.Event.{Event}
 use Rattle.proxy_core.specs.ReadAnswers.{ResponseWasReadFromAStream}
 use Rattle.proxy_core_laws.specs.SentMessages.{MessagesOfTraceWereRead, MessageOfEventWasRead, RequestWasRead}
-use Rattle.proxy_engine.specs.Admitted.{asked_on_connection}
+use Rattle.proxy_engine.specs.Admitted.{asked_closing_if_retired}
 use Rattle.proxy_engine.specs.EngineModel.{EngineModel, ConnectionModel, LinkModel, connection_at, link_at}
-use Rattle.proxy_engine.specs.Due.{Act, Abandons, Finishes, Wakes, Serves, Gives, Breaks, IsDueFirst}
+use Rattle.proxy_engine.specs.Due.{Act, Abandons, Finishes, Wakes, Serves, Gives, Breaks, IsFirstDueAct}
 use Rattle.proxy_engine.specs.FinalAnswers.{LinkSpellsAnswer, ConnectionSpellsRequest}
 use Rattle.proxy_engine.specs.Executions.{Took, Worked, IsCoreEventOfAct}
 use Rattle.proxy_engine.proofs.FinalAnswers.{acts_are_spelled}
@@ -26,7 +26,7 @@ read_answer : (k : LinkModel) (r : Response) → LinkSpellsAnswer k r → Respon
 read_answer k r is = record { max_body = k.progress.max_body; to_head = k.progress.to_head; ended = k.progress.ended; bytes = k.progress.stream; rest = is.rest; reads = is.reads }
 
 pub read_request : (c : ConnectionModel) (r : Request) (asked sent : Asked) (judged : Result Target TargetFault) (retired : Bool) → ConnectionSpellsRequest c r → TargetIsJudged r.target (values_of r.fields (codes "Host")) judged → Ok sent ≡ asked_with_judged_target r judged
-    → asked ≡ asked_on_connection retired sent → RequestWasRead asked
+    → asked ≡ asked_closing_if_retired retired sent → RequestWasRead asked
 read_request c r asked sent (Ok target) retired is named same handed = record {
   max_body = c.progress.max_body;
   ended = c.progress.ended;
@@ -38,14 +38,14 @@ read_request c r asked sent (Ok target) retired is named same handed = record {
   closes = (asked_with_target r target).close || retired;
   reads = is.reads;
   judged = named;
-  asked_is = handed ∙ ap (asked_on_connection retired) one;
+  asked_is = handed ∙ ap (asked_closing_if_retired retired) one;
 }
   where
     one : sent ≡ asked_with_target r target
     one = cc
 read_request c r asked sent (Err fault) retired is named same handed = absurd cc
 
-pub event_read : (s : EngineModel) (now : ℕ) (act : Act) (event : Event) → IsDueFirst s (Some act) → IsCoreEventOfAct s now act event → MessageOfEventWasRead event
+pub event_read : (s : EngineModel) (now : ℕ) (act : Act) (event : Event) → IsFirstDueAct s (Some act) → IsCoreEventOfAct s now act event → MessageOfEventWasRead event
 event_read s now (Abandons i l) event due is = subst MessageOfEventWasRead (sym is) tt
 event_read s now (Finishes j (Gives r)) event due is = subst MessageOfEventWasRead (sym is) (read_answer (link_at s j) r (acts_are_spelled s (Finishes j (Gives r)) due))
 event_read s now (Finishes j (Breaks kind)) event due is = subst MessageOfEventWasRead (sym is) tt

@@ -3,7 +3,7 @@ use Rattle.std.proofs.Common.{◌≡◌, ◌⊎◌, inl, inr, ℕ, ◌+◌, ◌<
 use Rattle.std.specs.Prelude.{All, Contains, Option, None, Some, Result, Ok, Err, bytes_eq, codes, cond}
 use Rattle.std.proofs.lemmas.List.Elements.{All-nil, All-cons, All-append, All-weaker}
 use Rattle.std.specs.Option.{option_map}
-use Rattle.hx_fields.specs.declared.limits.TheConstants.{END_OF_TIME}
+use Rattle.hx_fields.specs.declared.limits.TheConstants.{START_OF_YEAR_10000}
 use Rattle.hx_allow.specs.TableLines.{Table}
 use Rattle.hx_framing.specs.declared.messages.Request.{Request}
 use Rattle.hx_framing.specs.declared.frame_fault.FrameFault.{FrameFault}
@@ -16,8 +16,8 @@ use Rattle.hx_hop.specs.Asking.{asked_with_judged_target, asked_with_target}
 use Rattle.hx_hop.specs.Moments.{date_text_of}
 use Rattle.hx_target.specs.declared.target_fault.TargetFault.{TargetFault}
 use Rattle.hx_target.specs.declared.targets.Target.{Target}
-use Rattle.proxy_core.specs.Abouts.{about_refusal_reply}
-use Rattle.hx_status.specs.declared.question.Question.{Question}
+use Rattle.proxy_core.specs.Abouts.{report_of_refusal_reply}
+use Rattle.hx_status.specs.declared.question.MethodAndTarget.{MethodAndTarget}
 use Rattle.hx_status.specs.declared.cause.Cause.{Cause}
 use Rattle.hx_status.specs.declared.cause.Cause.TheVariants as cause
 use Rattle.hx_status.specs.declared.cause.FailKind.{FailKind}
@@ -39,15 +39,15 @@ use Rattle.proxy_script.specs.declared.effect_list.Effect.TheVariants as effects
 use Rattle.proxy_core_laws.specs.SentMessages.{MessagesOfTraceWereRead, OutcomeIsOneMessage, BytesAreOneResponse, event_is_to_head}
 use Rattle.hx_allow.specs.Tables.{TableWasRead}
 use Rattle.proxy_core_laws.proofs.SentMessages.{one_refusal, sends_one_message_each_time}
-use Rattle.proxy_engine.specs.Admitted.{Refusal, RequestIsAdmittedOrRefused, asked_on_connection}
+use Rattle.proxy_engine.specs.Admitted.{Refusal, RequestIsAdmittedOrRefused, asked_closing_if_retired}
 use Rattle.proxy_engine.specs.EngineModel.{EngineModel, connection_at, link_at}
-use Rattle.proxy_engine.specs.Due.{Act, Abandons, Finishes, Wakes, Serves, Gives, Breaks, IsDueFirst}
-use Rattle.proxy_engine.specs.Questions.{question_of, request_of_event}
-use Rattle.proxy_engine.specs.Acts.{RequestArrives, RequestIsRefused as IsRefused, ConnectionIsServed, origin_address_of_line, request_is_head, outcome_with_origin_address, effects_of_link_drop, effects_of_outcome, next_link_number}
+use Rattle.proxy_engine.specs.Due.{Act, Abandons, Finishes, Wakes, Serves, Gives, Breaks, IsFirstDueAct}
+use Rattle.proxy_engine.specs.Questions.{question_of_request, request_of_event}
+use Rattle.proxy_engine.specs.Acts.{RequestArrivesOrIsRefused, RequestIsRefusedAndClosed as IsRefused, ConnectionRequestIsServed, origin_address_of_line, request_is_head, outcome_with_origin_address, effects_of_link_drop, effects_of_outcome, next_link_number}
 use Rattle.proxy_engine.specs.State.{new_engine_model}
-use Rattle.proxy_engine.specs.Executions.{ExecutionStep, Took, Worked, IsCoreEventOfAct, IsItemOfAct, StepLeadsToModel, StepsLeadToModel, link_drop_effects_of_act, connection_place_of_act, effects_of_steps}
+use Rattle.proxy_engine.specs.Executions.{ExecutionStep, Took, Worked, IsCoreEventOfAct, CoreItemIsDoneByAct, StepLeadsToModel, StepsLeadToModel, link_drop_effects_of_act, connection_place_of_act, effects_of_steps}
 use Rattle.proxy_engine.proofs.Living.{Runs, executes, step_emitted}
-use Rattle.proxy_engine_laws.specs.OneMessageEach.{StartCanBeServed, EachReplyIsOneResponse, ActsAreBeforeYear10000, EachForwardIsOneRequest, ClientsGetOneResponseEach, ReplyIsOneResponse, ForwardIsOneRequest, act_is_of_head_request}
+use Rattle.proxy_engine_laws.specs.OneMessageEach.{StoreAtStartCanBeServed, EachReplyIsOneResponse, ActsAreBeforeYear10000, EachForwardIsOneRequest, EachTextToClientIsOneResponse, ReplyIsOneResponse, ForwardIsOneRequest, act_is_of_head_request}
 use Rattle.proxy_engine_laws.proofs.HandedOver.{event_read, hands_what_was_read}
 
 -- ---- whether a HEAD is answered
@@ -98,7 +98,7 @@ about_act s now (Serves i next.End) event is = absurd is
 -- an effect is one message, where it is a message
 record IsSent (name : List ℕ) (now : ℕ) (h : Bool) (e : Effect) : Type 0 where
   forwarded : ForwardIsOneRequest name e
-  answered : now < END_OF_TIME → ReplyIsOneResponse h e
+  answered : now < START_OF_YEAR_10000 → ReplyIsOneResponse h e
 
 module _ (table : Table) (now : ℕ) (h : Bool) where
   drops_sent : (first : ℕ) (o : Option ℕ) → All (IsSent table.name now h) (effects_of_link_drop first o)
@@ -118,7 +118,7 @@ module _ (table : Table) (now : ℕ) (h : Bool) where
   closes_or_not n true = close_sent n
   closes_or_not n false = All-nil (IsSent table.name now h)
 
-  came_sent : (i number : ℕ) (question : Option Question) (outcome : Outcome) → OutcomeIsOneMessage table.name h outcome → All (IsSent table.name now h) (effects_of_outcome i number question (outcome_with_origin_address table outcome))
+  came_sent : (i number : ℕ) (question : Option MethodAndTarget) (outcome : Outcome) → OutcomeIsOneMessage table.name h outcome → All (IsSent table.name now h) (effects_of_outcome i number question (outcome_with_origin_address table outcome))
   came_sent i number question (outcomes.Reply r) one =
       All-cons (IsSent table.name now h) (effects.Client (i + 1) r.bytes (Some (record { about = r.about; question = question }))) (cond r.close (effects.Close (i + 1) ∷ []) []) (record { forwarded = tt; answered = λ early. inr one }) (closes_or_not (i + 1) r.close)
   came_sent i number question (outcomes.Forward line bytes) one =
@@ -132,11 +132,11 @@ module _ (table : Table) (now : ℕ) (h : Bool) where
       subst (All (IsSent table.name now h)) (sym is)
       (All-cons (IsSent table.name now h) (effects.Client n continue_text None) [] (record { forwarded = tt; answered = λ early. inl refl }) (All-nil (IsSent table.name now h)))
 
-  refused_sent : (n : ℕ) (why : Cause) (head : Bool) (question : Option Question) (emitted : List Effect) → head ≡ h → emitted ≡ effects.Client n (refusal_reply_text (date_text_of now) why true head) (Some (record { about = about_refusal_reply why head; question = question })) ∷ effects.Close n ∷ []
+  refused_sent : (n : ℕ) (why : Cause) (head : Bool) (question : Option MethodAndTarget) (emitted : List Effect) → head ≡ h → emitted ≡ effects.Client n (refusal_reply_text (date_text_of now) why true head) (Some (record { about = report_of_refusal_reply why head; question = question })) ∷ effects.Close n ∷ []
       → All (IsSent table.name now h) emitted
   refused_sent n why head question emitted same is =
       subst (All (IsSent table.name now h)) (sym is)
-      (All-cons (IsSent table.name now h) (effects.Client n (refusal_reply_text (date_text_of now) why true head) (Some (record { about = about_refusal_reply why head; question = question }))) (effects.Close n ∷ [])
+      (All-cons (IsSent table.name now h) (effects.Client n (refusal_reply_text (date_text_of now) why true head) (Some (record { about = report_of_refusal_reply why head; question = question }))) (effects.Close n ∷ [])
       (record { forwarded = tt; answered = λ early. inr (subst (λ (g : Bool). BytesAreOneResponse g (refusal_reply_text (date_text_of now) why true head)) same (one_refusal now why true head early)) })
       (close_sent n))
 
@@ -145,7 +145,7 @@ module _ (table : Table) (now : ℕ) (h : Bool) where
 
 -- ---- acts
 
-module _ (table : Table) (read : TableWasRead table) (start : StoreAtStart) (first link : ℕ) (sound : StartCanBeServed table start first) (past : List ExecutionStep) (s : EngineModel) (executed : StepsLeadToModel (new_engine_model (core_begun table start first) link) past s) where
+module _ (table : Table) (read : TableWasRead table) (start : StoreAtStart) (first link : ℕ) (sound : StoreAtStartCanBeServed table start first) (past : List ExecutionStep) (s : EngineModel) (executed : StepsLeadToModel (new_engine_model (core_begun table start first) link) past s) where
   run : Runs table start first (new_engine_model (core_begun table start first) link) past s
   run = executes table start first (new_engine_model (core_begun table start first) link) sound.stands refl past s executed
 
@@ -153,7 +153,7 @@ module _ (table : Table) (read : TableWasRead table) (start : StoreAtStart) (fir
   keeps = promises_of_a_driven_core table start first run.trace s.core run.has_run
 
   module _ (now : ℕ) (emitted : List Effect) (t : EngineModel) where
-    by_item : (act : Act) → IsDueFirst s (Some act) → (item : Item) × IsItemOfAct table s now act item emitted t → All (IsSent table.name now (act_is_of_head_request s act)) emitted
+    by_item : (act : Act) → IsFirstDueAct s (Some act) → (item : Item) × CoreItemIsDoneByAct table s now act item emitted t → All (IsSent table.name now (act_is_of_head_request s act)) emitted
     by_item act due (item, is) =
         let promises = promises_of_a_driven_core table start first (item ∷ run.trace) t.core (s.core, run.has_run, is.steps) in
         let handed : MessagesOfTraceWereRead (item ∷ run.trace) = (event_read s now act item.event due is.event_is, hands_what_was_read table (new_engine_model (core_begun table start first) link) s past run.trace run.has_trace) in
@@ -161,19 +161,19 @@ module _ (table : Table) (read : TableWasRead table) (start : StoreAtStart) (fir
         let head : event_is_to_head (find_exchange (exchange_id_of_event item.event) (open_exchanges table start run.trace)) item.event ≡ act_is_of_head_request s act =
         ap (λ (xs : List Exchange). event_is_to_head (find_exchange (exchange_id_of_event item.event) xs) item.event) (sym keeps.exchanges_are) ∙ about_act s now act item.event is.event_is in
         subst (All (IsSent table.name now (act_is_of_head_request s act))) (sym is.emitted_is)
-        (All-append (IsSent table.name now (act_is_of_head_request s act)) (link_drop_effects_of_act s act) (effects_of_outcome (connection_place_of_act s act) (next_link_number s) (option_map question_of (request_of_event s.core.exchanges item.event)) (outcome_with_origin_address table item.outcome))
+        (All-append (IsSent table.name now (act_is_of_head_request s act)) (link_drop_effects_of_act s act) (effects_of_outcome (connection_place_of_act s act) (next_link_number s) (option_map question_of_request (request_of_event s.core.exchanges item.event)) (outcome_with_origin_address table item.outcome))
         (drops_of_act table now (act_is_of_head_request s act) s act)
-        (came_sent table now (act_is_of_head_request s act) (connection_place_of_act s act) (next_link_number s) (option_map question_of (request_of_event s.core.exchanges item.event)) item.outcome (subst (λ (h : Bool). OutcomeIsOneMessage table.name h item.outcome) head one)))
+        (came_sent table now (act_is_of_head_request s act) (connection_place_of_act s act) (next_link_number s) (option_map question_of_request (request_of_event s.core.exchanges item.event)) item.outcome (subst (λ (h : Bool). OutcomeIsOneMessage table.name h item.outcome) head one)))
 
-    arrives : (i : ℕ) (r : Request) (judged : Result Asked Refusal) → IsDueFirst s (Some (Serves i (next.Message r))) → RequestIsAdmittedOrRefused r judged → RequestArrives s now i r judged emitted t
+    arrives : (i : ℕ) (r : Request) (judged : Result Asked Refusal) → IsFirstDueAct s (Some (Serves i (next.Message r))) → RequestIsAdmittedOrRefused r judged → RequestArrivesOrIsRefused s now i r judged emitted t
         → All (IsSent table.name now (bytes_eq r.method (codes "HEAD"))) emitted
-    arrives i r (Ok asked) due admitted h = by_item (Serves i (next.Message r)) due (step_emitted table now (Serves i (next.Message r)) s _ _ _ emitted t run.config (asked_on_connection (connection_at s i).retired asked, (asked, admitted, refl), refl) refl h.1)
+    arrives i r (Ok asked) due admitted h = by_item (Serves i (next.Message r)) due (step_emitted table now (Serves i (next.Message r)) s _ _ _ emitted t run.config (asked_closing_if_retired (connection_at s i).retired asked, (asked, admitted, refl), refl) refl h.1)
     arrives i r (Err refusal) due (fault, asked, is) h = refused_sent table now (bytes_eq r.method (codes "HEAD")) (i + 1) refusal.why refusal.head _ emitted (ap (λ (f : Refusal). f.head) is) h.emitted_is
 
     refused : (i : ℕ) (why : Cause) → IsRefused s now i why false None emitted t → All (IsSent table.name now false) emitted
     refused i why h = refused_sent table now false (i + 1) why false None emitted refl h.emitted_is
 
-    framed : (i : ℕ) (fault : FrameFault) → ConnectionIsServed s now i (next.Refused fault) emitted t → All (IsSent table.name now false) emitted
+    framed : (i : ℕ) (fault : FrameFault) → ConnectionRequestIsServed s now i (next.Refused fault) emitted t → All (IsSent table.name now false) emitted
     framed i frame.Truncated h = closed_sent table now false (i + 1) emitted h.0
     framed i frame.Head h = refused i (cause.Frame frame.Head) h
     framed i frame.Version h = refused i (cause.Frame frame.Version) h
@@ -201,7 +201,7 @@ module _ (table : Table) (read : TableWasRead table) (start : StoreAtStart) (fir
 contained : {X : Type 0} (P : X → Type 0) (xs : List X) (x : X) → All P xs → Contains xs x → P x
 contained P xs x all has = subst P has.2 (all has.0 x has.1)
 
-module _ (table : Table) (read : TableWasRead table) (start : StoreAtStart) (first link : ℕ) (sound : StartCanBeServed table start first) where
+module _ (table : Table) (read : TableWasRead table) (start : StoreAtStart) (first link : ℕ) (sound : StoreAtStartCanBeServed table start first) where
   all_forwarded : (steps : List ExecutionStep) (t : EngineModel) → StepsLeadToModel (new_engine_model (core_begun table start first) link) steps t → All (ForwardIsOneRequest table.name) (effects_of_steps steps)
   all_forwarded [] t h = All-nil (ForwardIsOneRequest table.name)
   all_forwarded (Took happening ∷ past) t (s, executed, leads) = all_forwarded past s executed
@@ -239,6 +239,6 @@ answers_one_response_each table start first link now past s t act emitted read s
     All-weaker (IsSent table.name now (act_is_of_head_request s act)) (ReplyIsOneResponse (act_is_of_head_request s act)) (λ e is. is.answered early) emitted
     (sent_by table read start first link sound past s executed now emitted t act leads)
 
-pub gets_one_response_each : ClientsGetOneResponseEach
+pub gets_one_response_each : EachTextToClientIsOneResponse
 gets_one_response_each table start first link steps t read sound executed early n bytes replied has =
     contained (Gets table read start first link sound) (effects_of_steps steps) (effects.Client n bytes replied) (all_got table read start first link sound steps t executed early) has

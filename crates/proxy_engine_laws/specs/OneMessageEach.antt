@@ -5,11 +5,11 @@
 -- ActsAreBeforeYear10000: moments that `work` takes          act_is_of_head_request: an act answers a HEAD
 -- ForwardIsOneRequest, ReplyIsOneResponse: an effect that is one message
 -- CoreIsHandedReadMessages: what its core is handed
--- EachForwardIsOneRequest, EachReplyIsOneResponse, ClientsGetOneResponseEach: the statements
+-- EachForwardIsOneRequest, EachReplyIsOneResponse, EachTextToClientIsOneResponse: the statements
 use Rattle.std.specs.Prelude.{◌≡◌, ◌⊎◌, ℕ, ◌+◌, ◌<◌, Bool, false, bytes_eq, List, [], ◌∷◌, codes, All, Contains}
 use Rattle.std.specs.Prelude.{Option, Some}
 use Rattle.std.specs.declared.net.socket_addr.SocketAddrV4.{SocketAddrV4}
-use Rattle.hx_fields.specs.declared.limits.TheConstants.{END_OF_TIME}
+use Rattle.hx_fields.specs.declared.limits.TheConstants.{START_OF_YEAR_10000}
 use Rattle.hx_allow.specs.TableLines.{Table}
 use Rattle.hx_framing.specs.declared.messages.Next.TheVariants as next
 use Rattle.hx_framing.specs.Text.{continue_text}
@@ -18,8 +18,8 @@ use Rattle.proxy_core.specs.AnsweredRequests.{request_of_exchange}
 use Rattle.proxy_core.specs.Outcomes.{find_exchange}
 use Rattle.proxy_core.specs.State.{bounds_of}
 use Rattle.proxy_core.specs.Traces.{Item, initial_state as core_begun}
-use Rattle.proxy_core.specs.Starts.{StoreAtStart, StartIsValid, HoldsForEachResponseAtStart}
-use Rattle.proxy_core_laws.specs.SentMessages.{CanBeSent, MessagesOfTraceWereRead, BytesAreOneRequest}
+use Rattle.proxy_core.specs.Starts.{StoreAtStart, StoreAtStartIsValid, HoldsForEachResponseAtStart}
+use Rattle.proxy_core_laws.specs.SentMessages.{StartResponseCanBeSent, MessagesOfTraceWereRead, BytesAreOneRequest}
 use Rattle.proxy_core_laws.specs.SentMessages.{BytesAreOneResponse}
 use Rattle.hx_allow.specs.Tables.{TableWasRead}
 use Rattle.proxy_script.specs.declared.effect_list.Effect.{Effect}
@@ -36,7 +36,7 @@ use Rattle.proxy_engine.specs.Executions.{effects_of_steps}
 abbrev pub ActsAreBeforeYear10000 : List ExecutionStep → Type 0
 ActsAreBeforeYear10000 [] = Unit {0}
 ActsAreBeforeYear10000 (Took happening ∷ past) = ActsAreBeforeYear10000 past
-ActsAreBeforeYear10000 (Worked now act emitted ∷ past) = (now < END_OF_TIME) × ActsAreBeforeYear10000 past
+ActsAreBeforeYear10000 (Worked now act emitted ∷ past) = (now < START_OF_YEAR_10000) × ActsAreBeforeYear10000 past
 
 -- the request that an act is about is a HEAD: that of the exchange that is open on its connection, or the one that its
 -- stream spells
@@ -67,9 +67,9 @@ ReplyIsOneResponse to_head (effects.Close n) = Unit {0}
 ReplyIsOneResponse to_head (effects.Drop l) = Unit {0}
 
 -- what its store may hold at first, and can be sent
-pub record StartCanBeServed (table : Table) (start : StoreAtStart) (first : ℕ) : Type 0 where
-  pub stands : StartIsValid (bounds_of table start.limit) (Some first) start.entries
-  pub can_be_sent : HoldsForEachResponseAtStart CanBeSent start
+pub record StoreAtStartCanBeServed (table : Table) (start : StoreAtStart) (first : ℕ) : Type 0 where
+  pub stands : StoreAtStartIsValid (bounds_of table start.limit) (Some first) start.entries
+  pub can_be_sent : HoldsForEachResponseAtStart StartResponseCanBeSent start
 
 -- ---- the statements
 
@@ -85,7 +85,7 @@ abbrev pub EachForwardIsOneRequest : Type 0
 EachForwardIsOneRequest =
     (table : Table) (start : StoreAtStart) (first link : ℕ) (steps : List ExecutionStep) (t : EngineModel)
     → TableWasRead table
-    → StartCanBeServed table start first
+    → StoreAtStartCanBeServed table start first
     → StepsLeadToModel (new_engine_model (core_begun table start first) link) steps t
     → (l : ℕ) (address : SocketAddrV4) (bytes : List ℕ)
     → Contains (effects_of_steps steps) (effects.Forward l address bytes)
@@ -98,17 +98,17 @@ EachReplyIsOneResponse =
     (table : Table) (start : StoreAtStart) (first link now : ℕ) (past : List ExecutionStep) (s t : EngineModel)
     (act : Act)
     (emitted : List Effect)
-    → TableWasRead table → StartCanBeServed table start first
-    → StepsLeadToModel (new_engine_model (core_begun table start first) link) past s → now < END_OF_TIME
+    → TableWasRead table → StoreAtStartCanBeServed table start first
+    → StepsLeadToModel (new_engine_model (core_begun table start first) link) past s → now < START_OF_YEAR_10000
     → StepLeadsToModel s (Worked now act emitted) t
     → All (ReplyIsOneResponse (act_is_of_head_request s act)) emitted
 
 -- so it is of all that clients ever got
-abbrev pub ClientsGetOneResponseEach : Type 0
-ClientsGetOneResponseEach =
+abbrev pub EachTextToClientIsOneResponse : Type 0
+EachTextToClientIsOneResponse =
     (table : Table) (start : StoreAtStart) (first link : ℕ) (steps : List ExecutionStep) (t : EngineModel)
     → TableWasRead table
-    → StartCanBeServed table start first
+    → StoreAtStartCanBeServed table start first
     → StepsLeadToModel (new_engine_model (core_begun table start first) link) steps t
     → ActsAreBeforeYear10000 steps
     → (n : ℕ) (bytes : List ℕ) (replied : Option ReplyData)

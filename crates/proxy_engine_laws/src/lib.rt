@@ -3,7 +3,7 @@
 #![tactic(auto)]
 
 ghost use Rattle.proxy_engine_laws.specs.OneMessageEach.{EachReplyIsOneResponse, EachForwardIsOneRequest};
-ghost use Rattle.proxy_engine_laws.specs.OneMessageEach.{ClientsGetOneResponseEach, CoreIsHandedReadMessages};
+ghost use Rattle.proxy_engine_laws.specs.OneMessageEach.{EachTextToClientIsOneResponse, CoreIsHandedReadMessages};
 
 /// Whatever an engine lives through, each request that its core is handed is one that a client's stream spells, asked
 /// for the target that it names, and each answer is one that an origin's stream spells.
@@ -25,5 +25,5 @@ pub fn each_forward_is_one_request()
 /// splitting, of what is really sent.
 pub fn each_reply_is_one_response()
     ensures each_act { EachReplyIsOneResponse }
-    ensures all { ClientsGetOneResponseEach }
+    ensures all { EachTextToClientIsOneResponse }
 {}

@@ -5,9 +5,9 @@ use Rattle.std.proofs.lemmas.List.{map-append, length-map}
 use Rattle.std.proofs.lemmas.Option.{none-some}
 use Rattle.std.specs.declared.net.socket_addr.SocketAddrV4.{SocketAddrV4}
 use Rattle.proxy_figures.specs.declared.origins.Origin.{Origin}
-use Rattle.proxy_figures.specs.Origins.{IsNewOrigin}
-use Rattle.proxy_figures.specs.OriginsModel.{OriginsModel, addresses, PlaceIsOfOriginWithAddress}
-use Rattle.proxy_figures.specs.LineOrigins.{LineHasPlaceOfItsOrigin, LinesHavePlacesOfTheirOrigins, EachLineHasItsOrigin, entry_of_line}
+use Rattle.proxy_figures.specs.Origins.{IsFreshOriginOfAddress}
+use Rattle.proxy_figures.specs.OriginsModel.{OriginsModel, addresses, OriginWithAddressIsFoundOrAdded}
+use Rattle.proxy_figures.specs.LineOrigins.{LineHasPlaceOfItsOrigin, LinesHavePlacesOfTheirOrigins, EachLineHasItsOrigin, entry_of_line_number}
 
 -- what stands in front stays where more is added behind it
 get_front : {A : Type 0} (xs ys : List A) (i : ℕ) (a : A) → slice_get xs i ≡ Some a → slice_get (xs ++ ys) i ≡ Some a
@@ -39,12 +39,12 @@ lines_stay (l ∷ ls) [] old o are = are
 lines_stay (l ∷ ls) (p ∷ ps) old o are = (line_stays l p old o are.0, lines_stay ls ps old o are.1)
 
 stays_placed : (ls : List (Option SocketAddrV4)) (ps : List (Option ℕ)) (a : SocketAddrV4) (place : ℕ) (old new : OriginsModel)
-    → PlaceIsOfOriginWithAddress a old place new → LinesHavePlacesOfTheirOrigins ls ps old → LinesHavePlacesOfTheirOrigins ls ps new
+    → OriginWithAddressIsFoundOrAdded a old place new → LinesHavePlacesOfTheirOrigins ls ps old → LinesHavePlacesOfTheirOrigins ls ps new
 stays_placed ls ps a place old new (inl same) are = subst (λ (k : OriginsModel). LinesHavePlacesOfTheirOrigins ls ps k) (sym same.0) are
 stays_placed ls ps a place old new (inr more) are =
     subst (λ (k : OriginsModel). LinesHavePlacesOfTheirOrigins ls ps k) (sym more.2.2) (lines_stay ls ps old more.2.0 are)
 
-is_placed : (a : SocketAddrV4) (place : ℕ) (old new : OriginsModel) → PlaceIsOfOriginWithAddress a old place new → LineHasPlaceOfItsOrigin (Some a) (Some place) new
+is_placed : (a : SocketAddrV4) (place : ℕ) (old new : OriginsModel) → OriginWithAddressIsFoundOrAdded a old place new → LineHasPlaceOfItsOrigin (Some a) (Some place) new
 is_placed a place old new (inl same) = subst (λ (k : OriginsModel). LineHasPlaceOfItsOrigin (Some a) (Some place) k) (sym same.0) same.1
 is_placed a place old new (inr more) =
     let o : Origin = more.2.0 in
@@ -64,7 +64,7 @@ placed_push (k ∷ ls) [] l p known are is = absurd are
 placed_push (k ∷ ls) (q ∷ ps) l p known are is = (are.0, placed_push ls ps l p known are.1 is)
 
 pub known_line : (ls : List (Option SocketAddrV4)) (ps : List (Option ℕ)) (a : SocketAddrV4) (place : ℕ) (old new : OriginsModel)
-    → PlaceIsOfOriginWithAddress a old place new → LinesHavePlacesOfTheirOrigins ls ps old → LinesHavePlacesOfTheirOrigins (ls ++ Some a ∷ []) (ps ++ Some place ∷ []) new
+    → OriginWithAddressIsFoundOrAdded a old place new → LinesHavePlacesOfTheirOrigins ls ps old → LinesHavePlacesOfTheirOrigins (ls ++ Some a ∷ []) (ps ++ Some place ∷ []) new
 known_line ls ps a place old new placed are =
     placed_push ls ps (Some a) (Some place) new (stays_placed ls ps a place old new placed are) (is_placed a place old new placed)
 

@@ -12,13 +12,13 @@ use Rattle.std.specs.Cmp.Lexicographic.{told_text}
 use lib.Pointwise.{pointwise}
 use borrow.Author.Count.{below_more}
 use Rattle.std.specs.declared.net.socket_addr.SocketAddrV4.{SocketAddrV4}
-use Rattle.proxy_figures.specs.declared.origins.Admission.{Admission}
-use Rattle.proxy_figures.specs.declared.origins.Admission.TheVariants.{Yes, AsProbe, No}
+use Rattle.proxy_figures.specs.declared.origins.LinkAdmission.{LinkAdmission}
+use Rattle.proxy_figures.specs.declared.origins.LinkAdmission.TheVariants.{Yes, AsProbe, No}
 use Rattle.proxy_figures.specs.declared.origins.Origin.{Origin}
 use Rattle.proxy_figures.specs.declared.sorts.Cause.{Cause}
 use Rattle.proxy_figures.specs.declared.sorts.ReplySort.{ReplySort}
 use Rattle.proxy_figures.specs.Sorts.{is_failure_covered_by_store}
-use Rattle.proxy_figures.specs.Origins.{is_crowded, IsNewOrigin, origin_changed_at, origin_with_link_begun, origin_with_link_ended, origin_with_admission, origin_with_reply, origin_with_cause, origin_with_failure, origin_with_failure_covered_by_store, origin_with_answer}
+use Rattle.proxy_figures.specs.Origins.{is_crowded, IsFreshOriginOfAddress, origin_changed_at, origin_with_link_begun, origin_with_link_ended, origin_with_refusal_if_not_admitted, origin_with_reply, origin_with_failure_or_answer, origin_with_failure, origin_with_failure_covered_by_store, origin_with_answer}
 use Rattle.proxy_figures.specs.OriginsModel.{addresses, CrowdedCountAndAddressesAreValid, AddressIsOfNoOrigin}
 
 module _ (xs : List Origin) (place : ℕ) (old new : Origin) (within : place < length xs) (at : old ≡ get_or xs place old) where
@@ -81,7 +81,7 @@ other_so_far xs i o address within at other before k d below = below_more (λ (j
     (subst (λ (a : SocketAddrV4). a ≢ address) (sym (get_or_from_slice_get (addresses xs) i o.address d (address_at xs i o within at))) other) k below
 
 -- a new origin stands at the end
-pub counted-push : (most crowded after : ℕ) (xs : List Origin) (address : SocketAddrV4) (o : Origin) → CrowdedCountAndAddressesAreValid most crowded xs → AddressIsOfNoOrigin address xs → IsNewOrigin address o
+pub counted-push : (most crowded after : ℕ) (xs : List Origin) (address : SocketAddrV4) (o : Origin) → CrowdedCountAndAddressesAreValid most crowded xs → AddressIsOfNoOrigin address xs → IsFreshOriginOfAddress address o
     → after ≡ crowded + cond (is_crowded most o) 1 0 → CrowdedCountAndAddressesAreValid most after (xs ++ o ∷ [])
 counted-push most crowded after xs address o counted other new numbers = record {
   counted = numbers ∙ ap (λ (n : ℕ). n + cond (is_crowded most o) 1 0) counted.counted ∙ sym (sum_by_push (λ (p : Origin). cond (is_crowded most p) 1 0) xs o);
@@ -94,19 +94,19 @@ cond_keeps : {X : Type 0} (f : Origin → X) (b : Bool) (x y : Origin) (v : X) �
 cond_keeps f true x y v e g = e
 cond_keeps f false x y v e g = g
 
-pub admission-address : (admission : Admission) (most : ℕ) (o : Origin) → (origin_with_admission admission most o).address ≡ o.address
+pub admission-address : (admission : LinkAdmission) (most : ℕ) (o : Origin) → (origin_with_refusal_if_not_admitted admission most o).address ≡ o.address
 admission-address Yes most o = refl
 admission-address AsProbe most o = refl
 admission-address No most o = cond_keeps (λ (p : Origin). p.address) (nat_le most o.open) _ _ o.address refl refl
 
-pub admission-open : (admission : Admission) (most : ℕ) (o : Origin) → (origin_with_admission admission most o).open ≡ o.open
+pub admission-open : (admission : LinkAdmission) (most : ℕ) (o : Origin) → (origin_with_refusal_if_not_admitted admission most o).open ≡ o.open
 admission-open Yes most o = refl
 admission-open AsProbe most o = refl
 admission-open No most o = cond_keeps (λ (p : Origin). p.open) (nat_le most o.open) _ _ o.open refl refl
 
 reply_keeps : {X : Type 0} (f : Origin → X) (status : ℕ) (sort : ReplySort) (cause : Option Cause) (o : Origin)
     → ((c : Cause) → f (origin_with_failure c o) ≡ f o) → f (origin_with_failure_covered_by_store o) ≡ f o → ((n : ℕ) → f (origin_with_answer n o) ≡ f o)
-    → f (origin_with_cause cause status sort o) ≡ f o
+    → f (origin_with_failure_or_answer cause status sort o) ≡ f o
 reply_keeps f status sort (Some c) o failure covered answer = failure c
 reply_keeps f status sort None o failure covered answer = cond_keeps f (is_failure_covered_by_store sort) _ _ (f o) covered (answer _)
 
@@ -116,12 +116,12 @@ reply-address status sort o = reply_keeps (λ (p : Origin). p.address) status so
 pub reply-open : (status : ℕ) (sort : ReplySort) (o : Origin) → (origin_with_reply status sort o).open ≡ o.open
 reply-open status sort o = reply_keeps (λ (p : Origin). p.open) status sort sort.cause o (λ c. refl) refl (λ n. refl)
 
-pub link-address : (admission : Admission) (o : Origin) → (origin_with_link_begun admission o).address ≡ o.address
+pub link-address : (admission : LinkAdmission) (o : Origin) → (origin_with_link_begun admission o).address ≡ o.address
 link-address No o = refl
 link-address Yes o = refl
 link-address AsProbe o = refl
 
-pub ended-address : (admission : Admission) (lasted : ℕ) (o : Origin) → (origin_with_link_ended admission lasted o).address ≡ o.address
+pub ended-address : (admission : LinkAdmission) (lasted : ℕ) (o : Origin) → (origin_with_link_ended admission lasted o).address ≡ o.address
 ended-address No lasted o = refl
 ended-address Yes lasted o = refl
 ended-address AsProbe lasted o = refl

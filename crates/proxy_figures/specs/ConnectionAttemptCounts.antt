@@ -2,7 +2,8 @@
 --
 -- is_errno_of_no_descriptor, is_errno_of_no_port: of the numbers of the system's errors, those of no descriptor left,
 -- of no port
--- attempts_with_accepted, attempts_with_no_room, attempts_with_refused_accept, attempts_with_link_without_descriptor,
+-- attempts_with_accepted, attempts_with_no_connection_room, attempts_with_accept_error,
+-- attempts_with_link_without_descriptor,
 -- attempts_with_link_without_port: counts, with
 --     one more
 use Rattle.std.specs.Prelude.{◌==◌, ◌||◌, ℤ, pos, Bool, false, if◌then◌else◌, Option, Some}
@@ -26,8 +27,8 @@ is_errno_of_no_port _ = false
 abbrev pub attempts_with_accepted : ConnectionAttemptCounts → ConnectionAttemptCounts
 attempts_with_accepted counts = record counts { accepted = count_plus_one counts.accepted }
 
-abbrev pub attempts_with_no_room : ConnectionAttemptCounts → ConnectionAttemptCounts
-attempts_with_no_room counts = record counts { full = count_plus_one counts.full }
+abbrev pub attempts_with_no_connection_room : ConnectionAttemptCounts → ConnectionAttemptCounts
+attempts_with_no_connection_room counts = record counts { full = count_plus_one counts.full }
 
 -- a call that failed since nobody waits isn't counted
 abbrev pub attempts_with_failed_accept : ConnectionAttemptCounts → ErrorKind → ConnectionAttemptCounts
@@ -35,8 +36,8 @@ attempts_with_failed_accept counts OutOfMemory = record counts { no_memory = cou
 attempts_with_failed_accept counts WouldBlock = counts
 attempts_with_failed_accept counts _ = record counts { failed = count_plus_one counts.failed }
 
-abbrev pub attempts_with_refused_accept : ConnectionAttemptCounts → Error → ConnectionAttemptCounts
-attempts_with_refused_accept counts error = if is_errno_of_no_descriptor (raw_os_error error)
+abbrev pub attempts_with_accept_error : ConnectionAttemptCounts → Error → ConnectionAttemptCounts
+attempts_with_accept_error counts error = if is_errno_of_no_descriptor (raw_os_error error)
     then record counts { no_descriptor = count_plus_one counts.no_descriptor }
     else attempts_with_failed_accept counts (error_kind error)
 

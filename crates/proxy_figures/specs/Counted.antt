@@ -30,7 +30,8 @@ use Rattle.hx_storable.specs.declared.rule.StoreRule.{StoreRule}
 use Rattle.proxy_figures.specs.NotStored.{storing_rule_place}
 use Rattle.proxy_figures.specs.ReplyCounts.{reason_row, detail_column, reply_place, cause_place}
 use Rattle.proxy_figures.specs.ReplySorts.{reason_of_rule, detail_of_rule, detail_of_step, cause_of_failure}
-use Rattle.proxy_figures.specs.ReplySorts.{cause_of_message, cause_of_target, detail_told_by_status, reply_sort_of_told}
+use Rattle.proxy_figures.specs.ReplySorts.{cause_of_message, cause_of_target_fault, detail_told_by_status}
+use Rattle.proxy_figures.specs.ReplySorts.{reply_sort_of_told}
 use Rattle.proxy_figures.specs.Sorts.{reason_name, detail_name, cause_name}
 use Rattle.proxy_figures.specs.Unanswered.{unanswered_place}
 use Rattle.proxy_figures.specs.declared.not_stored.TheConstants.{ALL_STORING_RULES, STORING_RULE_COUNT}
@@ -66,7 +67,7 @@ MessageFaultLabelsMatchRefusal = (fault : FrameFault)
 
 abbrev pub TargetFaultLabelsMatchRefusal : Type 0
 TargetFaultLabelsMatchRefusal = (fault : TargetFault)
-    → IfSome (cause_of_target fault) (λ c. cause_name c ≡ target_fault_word fault)
+    → IfSome (cause_of_target_fault fault) (λ c. cause_name c ≡ target_fault_word fault)
 
 -- ---- what a reply counts as
 
@@ -81,19 +82,20 @@ abbrev pub OnlyAHitCountsAsAHit : Type 0
 OnlyAHitCountsAsAHit = (told : Told) → (reply_sort_of_told told).reason ≡ reason.Hit → ReplyReportsHit told
 
 -- what a figure of refusals counts: whatever line of the table or rules are named besides
-abbrev pub IsOfOriginFailure : FailKind → Refusal → Type 0
-IsOfOriginFailure kind why = (rule : ReuseRule) × ((error : Option ErrorRule) × (why ≡ refusal.Origin kind rule error))
+abbrev pub IsRefusalForOriginFailure : FailKind → Refusal → Type 0
+IsRefusalForOriginFailure kind why = (rule : ReuseRule)
+    × ((error : Option ErrorRule) × (why ≡ refusal.Origin kind rule error))
 
 abbrev pub RefusalIsOfCause : Cause → Refusal → Type 0
 RefusalIsOfCause cause.Denied why = (line : ℕ) × (why ≡ refusal.Denied line)
 RefusalIsOfCause cause.NoLine why = why ≡ refusal.NoLine
 RefusalIsOfCause cause.Loop why = (line : ℕ) × (why ≡ refusal.Looped line)
 RefusalIsOfCause cause.OnlyIfCached why = (rule : ReuseRule) × (why ≡ refusal.OnlyIfCached rule)
-RefusalIsOfCause cause.OriginRefused why = IsOfOriginFailure kind.Refused why
-RefusalIsOfCause cause.OriginTimedOut why = IsOfOriginFailure kind.TimedOut why
-RefusalIsOfCause cause.OriginClosed why = IsOfOriginFailure kind.Closed why
-RefusalIsOfCause cause.OriginBadAnswer why = IsOfOriginFailure kind.BadAnswer why
-RefusalIsOfCause cause.OriginTooLarge why = IsOfOriginFailure kind.TooLarge why
+RefusalIsOfCause cause.OriginRefused why = IsRefusalForOriginFailure kind.Refused why
+RefusalIsOfCause cause.OriginTimedOut why = IsRefusalForOriginFailure kind.TimedOut why
+RefusalIsOfCause cause.OriginClosed why = IsRefusalForOriginFailure kind.Closed why
+RefusalIsOfCause cause.OriginBadAnswer why = IsRefusalForOriginFailure kind.BadAnswer why
+RefusalIsOfCause cause.OriginTooLarge why = IsRefusalForOriginFailure kind.TooLarge why
 RefusalIsOfCause cause.Head why = why ≡ refusal.Frame frame.Head
 RefusalIsOfCause cause.Version why = why ≡ refusal.Frame frame.Version
 RefusalIsOfCause cause.BothLengths why = why ≡ refusal.Frame frame.BothLengths

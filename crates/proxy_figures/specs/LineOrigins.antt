@@ -26,16 +26,16 @@ NextLineHasPlaceOfItsOrigin address place old new =
     → LinesHavePlacesOfTheirOrigins (lines ++ address ∷ []) (places ++ place ∷ []) new
 
 -- what a list has for a line, counted from 1
-abbrev pub entry_of_line : {A : Type 0} → List (Option A) → Option ℕ → Option A
-entry_of_line entries None = None
-entry_of_line entries (Some zero) = None
-entry_of_line entries (Some (suc n)) = unwrap_or (slice_get entries n) None
+abbrev pub entry_of_line_number : {A : Type 0} → List (Option A) → Option ℕ → Option A
+entry_of_line_number entries None = None
+entry_of_line_number entries (Some zero) = None
+entry_of_line_number entries (Some (suc n)) = unwrap_or (slice_get entries n) None
 
 abbrev pub place_of_line : List (Option ℕ) → Option ℕ → Option ℕ
-place_of_line places line = entry_of_line places line
+place_of_line places line = entry_of_line_number places line
 
 abbrev pub address_of_line : List (Option SocketAddrV4) → Option ℕ → Option SocketAddrV4
-address_of_line addresses line = entry_of_line addresses line
+address_of_line addresses line = entry_of_line_number addresses line
 
 -- ---- the statement
 

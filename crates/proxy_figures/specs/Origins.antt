@@ -1,15 +1,16 @@
 -- What is counted of an origin, and whether a link to it may be begun.
 --
 -- is_silent, is_crowded: of an origin
--- admission_of_origin, admission_of_known_origin: whether a further link may be begun
--- origin_with_admission, origin_with_answer, origin_with_written_bytes, origin_with_received_bytes: an origin, with one
+-- admission_of_link_to_origin, admission_of_known_origin: whether a further link may be begun
+-- origin_with_refusal_if_not_admitted, origin_with_answer, origin_with_written_bytes, origin_heard_with_received_bytes:
+-- an origin, with one
 -- thing more counted
 -- origin_with_failure, origin_with_failure_covered_by_store, origin_with_reply: where it failed, or by the reply that
 -- was made of it
 -- origin_with_link_begun, origin_with_link_ended, origin_with_one_more_silence: where a link is begun, has ended, or
 -- had no answer
 -- falls_silent: an origin is silent from this exchange on
--- IsNewOrigin: an origin of which nothing is counted
+-- IsFreshOriginOfAddress: an origin of which nothing is counted
 -- origin_changed_at: the origins, where the one at a place is changed
 -- name_of_origin: its name, empty where there is none
 use Rattle.std.specs.Prelude.{◌≡◌, ℕ, ◌-◌, ◌/◌, nat_le, Bool, true, false, not, ◌&&◌, ◌||◌, if◌then◌else◌, List, []}
@@ -21,8 +22,8 @@ use Rattle.proxy_figures.specs.ReplyCounts.{empty_reply_times, reply_times_with}
 use Rattle.proxy_figures.specs.Sorts.{is_failure_covered_by_store}
 use Rattle.proxy_figures.specs.declared.limits.TheConstants.{SILENT_EXCHANGES}
 use Rattle.proxy_figures.specs.declared.origins.TheConstants.{FAILURE_KIND_COUNT, STATUS_CLASS_COUNT}
-use Rattle.proxy_figures.specs.declared.origins.Admission.{Admission}
-use Rattle.proxy_figures.specs.declared.origins.Admission.TheVariants.{Yes, AsProbe, No}
+use Rattle.proxy_figures.specs.declared.origins.LinkAdmission.{LinkAdmission}
+use Rattle.proxy_figures.specs.declared.origins.LinkAdmission.TheVariants.{Yes, AsProbe, No}
 use Rattle.proxy_figures.specs.declared.origins.Origin.{Origin}
 use Rattle.proxy_figures.specs.declared.sorts.Cause.{Cause}
 use Rattle.proxy_figures.specs.declared.sorts.Cause.TheVariants as cause
@@ -37,22 +38,22 @@ abbrev pub is_crowded : ℕ → Origin → Bool
 is_crowded most origin = nat_le (most - most / 8) origin.open
 
 -- No link beyond as many as may be open; where silent origins are asked by one request at a time, one that asks.
-abbrev pub admission_of_origin : ℕ → Bool → Origin → Admission
-admission_of_origin most probes origin =
+abbrev pub admission_of_link_to_origin : ℕ → Bool → Origin → LinkAdmission
+admission_of_link_to_origin most probes origin =
     if nat_le most origin.open then No
     else if not probes || not (is_silent origin) then Yes
     else if origin.is_probed then No else AsProbe
 
-abbrev pub admission_of_known_origin : ℕ → Bool → Option Origin → Admission
+abbrev pub admission_of_known_origin : ℕ → Bool → Option Origin → LinkAdmission
 admission_of_known_origin most probes None = No
-admission_of_known_origin most probes (Some origin) = admission_of_origin most probes origin
+admission_of_known_origin most probes (Some origin) = admission_of_link_to_origin most probes origin
 
 -- a refusal is counted by its cause
-abbrev pub origin_with_admission : Admission → ℕ → Origin → Origin
-origin_with_admission Yes most origin = origin
-origin_with_admission AsProbe most origin = origin
-origin_with_admission No most origin =
-    if nat_le most origin.open then record origin { beyond_bound = count_plus_one origin.beyond_bound }
+abbrev pub origin_with_refusal_if_not_admitted : LinkAdmission → ℕ → Origin → Origin
+origin_with_refusal_if_not_admitted Yes most origin = origin
+origin_with_refusal_if_not_admitted AsProbe most origin = origin
+origin_with_refusal_if_not_admitted No most origin =
+    if nat_le most origin.open then record origin { refused_beyond_bound = count_plus_one origin.refused_beyond_bound }
     else record origin { while_silent = count_plus_one origin.while_silent }
 
 -- an answer counts by the hundred of its status
@@ -76,36 +77,37 @@ abbrev pub origin_with_failure_covered_by_store : Origin → Origin
 origin_with_failure_covered_by_store origin = record origin { failures = counts_with_one_more origin.failures 5 }
 
 -- Of an origin that answered it is the status of its own answer, where another was sent.
-abbrev pub origin_with_own_answer : ℕ → ReplySort → Origin → Origin
-origin_with_own_answer status sort origin =
+abbrev pub origin_with_answer_or_covered_failure : ℕ → ReplySort → Origin → Origin
+origin_with_answer_or_covered_failure status sort origin =
     if is_failure_covered_by_store sort then origin_with_failure_covered_by_store origin
     else origin_with_answer (unwrap_or sort.fwd_status status) origin
 
-abbrev pub origin_with_cause : Option Cause → ℕ → ReplySort → Origin → Origin
-origin_with_cause (Some cause) status sort origin = origin_with_failure cause origin
-origin_with_cause None status sort origin = origin_with_own_answer status sort origin
+abbrev pub origin_with_failure_or_answer : Option Cause → ℕ → ReplySort → Origin → Origin
+origin_with_failure_or_answer (Some cause) status sort origin = origin_with_failure cause origin
+origin_with_failure_or_answer None status sort origin = origin_with_answer_or_covered_failure status sort origin
 
 -- By the reply that was made of what an origin said or did: its failure, one that a stored response covered, or its
 -- answer. Each counts once.
 abbrev pub origin_with_reply : ℕ → ReplySort → Origin → Origin
-origin_with_reply status sort origin = origin_with_cause sort.cause status sort origin
+origin_with_reply status sort origin = origin_with_failure_or_answer sort.cause status sort origin
 
 abbrev pub origin_with_written_bytes : ℕ → Origin → Origin
 origin_with_written_bytes written origin = record origin { written = count_plus origin.written written }
 
 -- bytes came: it isn't silent
-abbrev pub origin_with_received_bytes : ℕ → Origin → Origin
-origin_with_received_bytes count origin = record origin { silences = 0; received = count_plus origin.received count }
+abbrev pub origin_heard_with_received_bytes : ℕ → Origin → Origin
+origin_heard_with_received_bytes count origin = record
+    origin { silences = 0; received = count_plus origin.received count }
 
 -- a link is begun, and has ended after so many milliseconds; one that isn't admitted is none
-abbrev pub origin_with_link_begun : Admission → Origin → Origin
+abbrev pub origin_with_link_begun : LinkAdmission → Origin → Origin
 origin_with_link_begun No origin = origin
 origin_with_link_begun Yes origin =
     record origin { begun = count_plus_one origin.begun; «open» = count_plus_one origin.open }
 origin_with_link_begun AsProbe origin =
     record origin { begun = count_plus_one origin.begun; «open» = count_plus_one origin.open; is_probed = true }
 
-abbrev pub origin_with_link_ended : Admission → ℕ → Origin → Origin
+abbrev pub origin_with_link_ended : LinkAdmission → ℕ → Origin → Origin
 origin_with_link_ended No lasted origin = origin
 origin_with_link_ended Yes lasted origin =
     record origin { «open» = origin.open - 1; times = reply_times_with lasted origin.times }
@@ -120,9 +122,9 @@ origin_with_one_more_silence origin = record origin { silences = count_plus_one 
 abbrev pub falls_silent : Origin → Bool
 falls_silent origin = not (is_silent origin) && is_silent (origin_with_one_more_silence origin)
 
-abbrev pub known_origin_falls_silent : Option Origin → Bool
-known_origin_falls_silent None = false
-known_origin_falls_silent (Some origin) = falls_silent origin
+abbrev pub origin_if_any_falls_silent : Option Origin → Bool
+origin_if_any_falls_silent None = false
+origin_if_any_falls_silent (Some origin) = falls_silent origin
 
 abbrev pub zero_answer_counts : List ℕ
 zero_answer_counts = replicate STATUS_CLASS_COUNT 0
@@ -131,7 +133,7 @@ abbrev pub zero_failure_counts : List ℕ
 zero_failure_counts = replicate FAILURE_KIND_COUNT 0
 
 -- it has this address, whose text is its name, and nothing is counted of it
-pub record IsNewOrigin (address : SocketAddrV4) (origin : Origin) : Type 0 where
+pub record IsFreshOriginOfAddress (address : SocketAddrV4) (origin : Origin) : Type 0 where
   pub name : string_bytes origin.name ≡ socket_v4_text address
   pub rest : origin ≡ record {
     address = address;
@@ -145,7 +147,7 @@ pub record IsNewOrigin (address : SocketAddrV4) (origin : Origin) : Type 0 where
     failures = zero_failure_counts;
     silences = 0;
     is_probed = false;
-    beyond_bound = 0;
+    refused_beyond_bound = 0;
     while_silent = 0;
   }
 

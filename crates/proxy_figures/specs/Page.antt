@@ -18,25 +18,26 @@ abbrev pub metric_label_text : List ℕ → List ℕ → List ℕ
 metric_label_text key label = key ++ codes "=\"" ++ label ++ codes "\""
 
 -- the name of a sample, and the label of its program
-abbrev pub sample_name_text : List ℕ → List ℕ → List ℕ
-sample_name_text listen name = name ++ codes "{" ++ metric_label_text (codes "listen") listen
+abbrev pub metric_sample_start_text : List ℕ → List ℕ → List ℕ
+metric_sample_start_text listen name = name ++ codes "{" ++ metric_label_text (codes "listen") listen
 
 abbrev pub further_label_text : List ℕ → List ℕ → List ℕ
 further_label_text key label = codes "," ++ metric_label_text key label
 
 -- the value, and the end of a sample
-abbrev pub metric_value_text : List ℕ → List ℕ
-metric_value_text value = codes "} " ++ value ++ codes "\n"
+abbrev pub metric_sample_end_text : List ℕ → List ℕ
+metric_sample_end_text value = codes "} " ++ value ++ codes "\n"
 
 abbrev pub metric_sample_text : List ℕ → List ℕ → List ℕ → List ℕ
-metric_sample_text listen name value = sample_name_text listen name ++ metric_value_text value
+metric_sample_text listen name value = metric_sample_start_text listen name ++ metric_sample_end_text value
 
 -- with a label of its own, and with two
 abbrev pub sample_with_label_text : List ℕ → List ℕ → List ℕ → List ℕ → List ℕ → List ℕ
-sample_with_label_text listen name key label value = sample_name_text listen name ++ further_label_text key label
-    ++ metric_value_text value
+sample_with_label_text listen name key label value = metric_sample_start_text listen name
+    ++ further_label_text key label
+    ++ metric_sample_end_text value
 
 abbrev pub sample_with_two_labels_text : List ℕ → List ℕ → List ℕ → List ℕ → List ℕ → List ℕ → List ℕ → List ℕ
 sample_with_two_labels_text listen name key label other_key other_label value =
-    sample_name_text listen name ++ further_label_text key label ++ further_label_text other_key other_label
-    ++ metric_value_text value
+    metric_sample_start_text listen name ++ further_label_text key label ++ further_label_text other_key other_label
+    ++ metric_sample_end_text value

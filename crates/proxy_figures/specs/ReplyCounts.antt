@@ -3,7 +3,8 @@
 -- reply_place, cause_place: where replies of a reason with a detail, and of a cause, are counted
 -- empty_reply_times: the times of no reply
 -- cause_counts_with, reply_times_with: counts, with one reply more
--- store_times_with, origin_times_with, proxy_times_with: the times of a source, with one reply more of any
+-- times_with_reply_if_from_store, times_with_reply_if_from_origin, times_with_reply_if_by_proxy: the times of a source,
+-- with one reply more of any
 use Rattle.std.specs.Prelude.{ℕ, ◌+◌, ◌*◌, List, replicate, Option, Some, None}
 use Rattle.proxy_figures.specs.Counts.{count_plus, counts_with_one_more}
 use Rattle.proxy_figures.specs.Times.{time_bucket_of}
@@ -102,14 +103,14 @@ reply_times_with took times = record {
 }
 
 -- the times of replies that come from a source, with those of one that comes from another
-abbrev pub store_times_with : Source → ℕ → ReplyTimes → ReplyTimes
-store_times_with source.Store took times = reply_times_with took times
-store_times_with other took times = times
+abbrev pub times_with_reply_if_from_store : Source → ℕ → ReplyTimes → ReplyTimes
+times_with_reply_if_from_store source.Store took times = reply_times_with took times
+times_with_reply_if_from_store other took times = times
 
-abbrev pub origin_times_with : Source → ℕ → ReplyTimes → ReplyTimes
-origin_times_with source.Origin took times = reply_times_with took times
-origin_times_with other took times = times
+abbrev pub times_with_reply_if_from_origin : Source → ℕ → ReplyTimes → ReplyTimes
+times_with_reply_if_from_origin source.Origin took times = reply_times_with took times
+times_with_reply_if_from_origin other took times = times
 
-abbrev pub proxy_times_with : Source → ℕ → ReplyTimes → ReplyTimes
-proxy_times_with source.Proxy took times = reply_times_with took times
-proxy_times_with other took times = times
+abbrev pub times_with_reply_if_by_proxy : Source → ℕ → ReplyTimes → ReplyTimes
+times_with_reply_if_by_proxy source.Proxy took times = reply_times_with took times
+times_with_reply_if_by_proxy other took times = times

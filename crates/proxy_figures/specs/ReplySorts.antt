@@ -105,10 +105,10 @@ abbrev pub detail_told_by_status : Status → Option Detail
 detail_told_by_status status = detail_of_step_or_handling status.detail status.how
 
 -- a storing rule is told where nothing else is; it counts among others there, and by a figure of its own
-abbrev pub detail_or_storing_rule : Option Detail → Option StoreRule → Detail
-detail_or_storing_rule (Some detail) rule = detail
-detail_or_storing_rule None (Some rule) = detail.Other
-detail_or_storing_rule None None = detail.Nothing
+abbrev pub detail_or_other_if_not_stored : Option Detail → Option StoreRule → Detail
+detail_or_other_if_not_stored (Some detail) rule = detail
+detail_or_other_if_not_stored None (Some rule) = detail.Other
+detail_or_other_if_not_stored None None = detail.Nothing
 
 abbrev pub storing_rule_if_no_detail : Option Detail → Option StoreRule → Option StoreRule
 storing_rule_if_no_detail (Some detail) rule = None
@@ -136,16 +136,16 @@ cause_of_message frame.Expect = Some cause.Expect
 cause_of_message frame.Truncated = None
 cause_of_message frame.Status = None
 
-abbrev pub cause_of_target : TargetFault → Option Cause
-cause_of_target target.Form = Some cause.Form
-cause_of_target target.Scheme = Some cause.Scheme
-cause_of_target target.Host = Some cause.Host
-cause_of_target target.Port = Some cause.Port
-cause_of_target target.Userinfo = Some cause.Userinfo
-cause_of_target target.Escape = Some cause.Escape
-cause_of_target target.DotSegment = Some cause.DotSegment
-cause_of_target target.TooLong = Some cause.TooLong
-cause_of_target target.OutOfMemory = None
+abbrev pub cause_of_target_fault : TargetFault → Option Cause
+cause_of_target_fault target.Form = Some cause.Form
+cause_of_target_fault target.Scheme = Some cause.Scheme
+cause_of_target_fault target.Host = Some cause.Host
+cause_of_target_fault target.Port = Some cause.Port
+cause_of_target_fault target.Userinfo = Some cause.Userinfo
+cause_of_target_fault target.Escape = Some cause.Escape
+cause_of_target_fault target.DotSegment = Some cause.DotSegment
+cause_of_target_fault target.TooLong = Some cause.TooLong
+cause_of_target_fault target.OutOfMemory = None
 
 abbrev pub cause_of_refusal : Refusal → Option Cause
 cause_of_refusal (refusal.Denied line) = Some cause.Denied
@@ -154,7 +154,7 @@ cause_of_refusal (refusal.Looped line) = Some cause.Loop
 cause_of_refusal (refusal.OnlyIfCached rule) = Some cause.OnlyIfCached
 cause_of_refusal (refusal.Origin kind rule error) = Some (cause_of_failure kind)
 cause_of_refusal (refusal.Frame fault) = cause_of_message fault
-cause_of_refusal (refusal.Target fault) = cause_of_target fault
+cause_of_refusal (refusal.Target fault) = cause_of_target_fault fault
 
 -- a reply for this reason, of which nothing else is said
 abbrev pub reply_sort_without_detail : Reason → ReplySort
@@ -172,7 +172,7 @@ reply_sort_without_detail why = record {
 abbrev pub reply_sort_of_handled : Status → ReplySort
 reply_sort_of_handled status = record {
   reason = reason_of_handling status.how;
-  detail = detail_or_storing_rule (detail_told_by_status status) status.not_stored;
+  detail = detail_or_other_if_not_stored (detail_told_by_status status) status.not_stored;
   cause = None;
   fwd_status = status.fwd_status;
   stored = status.stored;

@@ -94,10 +94,10 @@ abbrev pub source_of_reply_sort : ReplySort → Source
 source_of_reply_sort sort = source_by_reason sort.reason sort.collapsed
 
 -- a stored response was sent in place of a failure of the origin (RFC 5861, section 4): no status of an answer is named
-abbrev pub is_sent_after_failure : Detail → Bool
-is_sent_after_failure detail.StaleIfError = true
-is_sent_after_failure detail.ReuseAfterError = true
-is_sent_after_failure _ = false
+abbrev pub detail_tells_stored_after_failure : Detail → Bool
+detail_tells_stored_after_failure detail.StaleIfError = true
+detail_tells_stored_after_failure detail.ReuseAfterError = true
+detail_tells_stored_after_failure _ = false
 
 abbrev pub is_failure_covered_by_store : ReplySort → Bool
-is_failure_covered_by_store sort = is_sent_after_failure sort.detail && not (is_some sort.fwd_status)
+is_failure_covered_by_store sort = detail_tells_stored_after_failure sort.detail && not (is_some sort.fwd_status)

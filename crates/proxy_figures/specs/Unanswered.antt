@@ -6,8 +6,8 @@ use Rattle.std.specs.Prelude.{ℕ, List, codes}
 use Rattle.proxy_figures.specs.Counts.{counts_with_one_more}
 use Rattle.proxy_figures.specs.declared.endings.CutReason.{CutReason}
 use Rattle.proxy_figures.specs.declared.endings.CutReason.TheVariants as cut
-use Rattle.proxy_figures.specs.declared.endings.Lateness.{Lateness}
-use Rattle.proxy_figures.specs.declared.endings.Lateness.TheVariants as late
+use Rattle.proxy_figures.specs.declared.endings.ExceededClientLimit.{ExceededClientLimit}
+use Rattle.proxy_figures.specs.declared.endings.ExceededClientLimit.TheVariants as late
 use Rattle.proxy_figures.specs.declared.unanswered.UnansweredCause.{UnansweredCause}
 use Rattle.proxy_figures.specs.declared.unanswered.UnansweredCause.TheVariants as cause
 
@@ -35,7 +35,7 @@ cause_of_cut cut.Room = cause.Room
 cause_of_cut cut.Content = cause.ContentLimit
 cause_of_cut cut.Memory = cause.Memory
 
-abbrev pub cause_of_lateness : Lateness → UnansweredCause
+abbrev pub cause_of_lateness : ExceededClientLimit → UnansweredCause
 cause_of_lateness late.Client = cause.ClientTimeout
 cause_of_lateness late.Request = cause.RequestTimeout
 cause_of_lateness late.Abandon = cause.AbandonTimeout

@@ -1,9 +1,9 @@
 //! How often connections were taken and begun, or couldn't be.
 ghost use Rattle.std.specs.Prelude.{◌≡◌};
 ghost use Rattle.std.specs.IoError.{raw_os_error};
-ghost use Rattle.proxy_figures.specs.ConnectionAttemptCounts.{is_errno_of_no_descriptor, attempts_with_refused_accept};
+ghost use Rattle.proxy_figures.specs.ConnectionAttemptCounts.{is_errno_of_no_descriptor, attempts_with_accept_error};
 ghost use Rattle.proxy_figures.specs.ConnectionAttemptCounts.{attempts_with_accepted};
-ghost use Rattle.proxy_figures.specs.ConnectionAttemptCounts.{attempts_with_no_room};
+ghost use Rattle.proxy_figures.specs.ConnectionAttemptCounts.{attempts_with_no_connection_room};
 ghost use Rattle.proxy_figures.specs.ConnectionAttemptCounts.{attempts_with_link_without_descriptor};
 ghost use Rattle.proxy_figures.specs.ConnectionAttemptCounts.{attempts_with_link_without_port};
 ghost use Rattle.proxy_figures.specs.ConnectionAttemptCounts.{is_errno_of_no_port};
@@ -68,7 +68,7 @@ impl ConnectionAttemptCounts {
 
     /// Counts a connection that couldn't be taken.
     pub fn count_refused_accept(&mut self, error: &io::Error)
-        ensures { self.new ≡ attempts_with_refused_accept self.old error.now }
+        ensures { self.new ≡ attempts_with_accept_error self.old error.now }
     {
         if is_out_of_descriptors(error) {
             self.no_descriptor = count_plus_one(self.no_descriptor);
@@ -88,7 +88,7 @@ impl ConnectionAttemptCounts {
 
     /// Counts that there was no room for one.
     pub fn count_no_room(&mut self)
-        ensures { self.new ≡ attempts_with_no_room self.old }
+        ensures { self.new ≡ attempts_with_no_connection_room self.old }
     {
         self.full = count_plus_one(self.full);
     }
@@ -119,7 +119,7 @@ pub struct TroubleCounts {
     /// How often no local port was left for a connection to an origin.
     pub no_port: u64,
     /// How often a connection to an origin was refused at once, since as many were open to it as may be.
-    pub beyond_bound: u64,
+    pub refused_beyond_bound: u64,
     /// How often an origin became silent, so that it is asked by one request at a time; 0 where it isn't.
     pub silent: u64,
 }

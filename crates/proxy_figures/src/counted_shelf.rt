@@ -158,17 +158,21 @@ impl<'a, S: Shelf + Drop> Shelf for CountedShelf<'a, S> {
         self.shelf.has_key(key)
     }
 
-    fn find_matching(
+    fn find_matching_serials(
         &self,
         alloc: Global,
         key: &Key,
         request: &Fields,
     ) -> Result<Serials, AllocError> {
-        self.shelf.find_matching(alloc, key, request)
+        self.shelf.find_matching_serials(alloc, key, request)
     }
 
-    fn find_where<T: EntryTest>(&self, alloc: Global, test: &T) -> Result<Serials, AllocError> {
-        self.shelf.find_where(alloc, test)
+    fn find_serials_where<T: EntryTest>(
+        &self,
+        alloc: Global,
+        test: &T,
+    ) -> Result<Serials, AllocError> {
+        self.shelf.find_serials_where(alloc, test)
     }
 
     fn put(&mut self, entry: Entry, replaced: &[u64]) -> Result<Option<Entry>, Entry> {
@@ -206,8 +210,8 @@ impl<'a, S: Shelf + Drop> Shelf for CountedShelf<'a, S> {
         self.shelf.expire(serials, now);
     }
 
-    fn shed(&mut self, most: u64) -> Option<Entry> {
-        let out = self.shelf.shed(most);
+    fn evict_last_beyond_weight(&mut self, most: u64) -> Option<Entry> {
+        let out = self.shelf.evict_last_beyond_weight(most);
         self.count_evicted(&out);
         self.count_held();
         out

@@ -17,7 +17,7 @@ pub enum CutReason {
 
 /// Which time of a client is over.
 #[derive(Clone, Copy, PartialEq, Eq)]
-pub enum Lateness {
+pub enum ExceededClientLimit {
     /// It was silent.
     Client,
     /// Its request isn't whole.
@@ -75,13 +75,19 @@ impl ClientEndCounts {
         }
     }
 
-    pub fn count_lateness(&mut self, lateness: Lateness)
+    pub fn count_lateness(&mut self, lateness: ExceededClientLimit)
         ensures { self.new ≡ end_counts_with_lateness self.old lateness }
     {
         match lateness {
-            Lateness::Client => self.client_timeouts = count_plus_one(self.client_timeouts),
-            Lateness::Request => self.request_timeouts = count_plus_one(self.request_timeouts),
-            Lateness::Abandon => self.abandon_timeouts = count_plus_one(self.abandon_timeouts),
+            ExceededClientLimit::Client => self.client_timeouts = count_plus_one(
+                self.client_timeouts,
+            ),
+            ExceededClientLimit::Request => self.request_timeouts = count_plus_one(
+                self.request_timeouts,
+            ),
+            ExceededClientLimit::Abandon => self.abandon_timeouts = count_plus_one(
+                self.abandon_timeouts,
+            ),
         }
     }
 

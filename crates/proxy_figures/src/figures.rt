@@ -9,7 +9,7 @@ use crate::counted_shelf::StoreCounts;
 use crate::endings::ClientEndCounts;
 use crate::link_timeouts::LinkTimeouts;
 use crate::not_stored::{ALL_STORING_RULES, storing_rule_name};
-use crate::origins::{FAILURE_KINDS, Origin, Origins, STATUS_CLASSES};
+use crate::origins::{FAILURE_KIND_LABELS, Origin, Origins, STATUS_CLASS_LABELS};
 use crate::page::{Kind, Page, SingleSample};
 use crate::process::{ProcessFigures, push_process};
 use crate::reply_counts::{
@@ -196,7 +196,7 @@ fn push_reason(
     reason: Reason,
 ) -> Result<(), AllocError> {
     for detail in ALL_DETAILS {
-        let n = replies.count_with_reason(reason, *detail);
+        let n = replies.replies_with_reason(reason, *detail);
         if n > 0 || *detail == Detail::Nothing {
             page.sample_with_two_labels(
                 "revcache_requests_total",
@@ -246,7 +246,7 @@ fn push_storing_rules(page: &mut Page<'_>, replies: &ReplyCounts) -> Result<(), 
         "Answers of origins that were not stored, by storing rule, of lines that tell it.",
     )?;
     for rule in ALL_STORING_RULES {
-        let n = replies.count_with_storing_rule(*rule);
+        let n = replies.replies_with_storing_rule(*rule);
         page.sample_with_label(name, "rule", storing_rule_name(*rule), n)?;
     }
     Ok(())
@@ -257,7 +257,7 @@ fn push_statuses(page: &mut Page<'_>, replies: &ReplyCounts) -> Result<(), Alloc
     page.family(name, Kind::Counter, "Replies to clients by status.")?;
     for i in 0..STATUS_COUNT {
         let status = FIRST_STATUS + i as u16;
-        let n = replies.count_with_status(status);
+        let n = replies.replies_with_status(status);
         if n > 0 {
             let mut digits = Buffer::new();
             page.sample_with_label(name, "code", digits.format(status), n)?;
@@ -274,7 +274,7 @@ fn push_causes(page: &mut Page<'_>, replies: &ReplyCounts) -> Result<(), AllocEr
         "Replies that the proxy made by itself, by cause.",
     )?;
     for cause in ALL_CAUSES {
-        let n = replies.count_with_cause(*cause);
+        let n = replies.replies_with_cause(*cause);
         page.sample_with_label(name, "cause", cause.name(), n)?;
     }
     Ok(())
@@ -605,8 +605,8 @@ fn push_answers(page: &mut Page<'_>, origins: &Origins) -> Result<(), AllocError
         "Answers of an origin, by the hundred of their status.",
     )?;
     for origin in origins.as_slice() {
-        for i in 0..STATUS_CLASSES.len() {
-            let code = ("code", STATUS_CLASSES[i]);
+        for i in 0..STATUS_CLASS_LABELS.len() {
+            let code = ("code", STATUS_CLASS_LABELS[i]);
             page.sample_with_two_labels(name, ("origin", origin.name()), code, origin.answers[i])?;
         }
     }
@@ -621,8 +621,8 @@ fn push_failures(page: &mut Page<'_>, origins: &Origins) -> Result<(), AllocErro
         "Exchanges with an origin that failed, by kind.",
     )?;
     for origin in origins.as_slice() {
-        for i in 0..FAILURE_KINDS.len() {
-            let kind = ("kind", FAILURE_KINDS[i]);
+        for i in 0..FAILURE_KIND_LABELS.len() {
+            let kind = ("kind", FAILURE_KIND_LABELS[i]);
             page.sample_with_two_labels(name, ("origin", origin.name()), kind, origin.failures[i])?;
         }
     }
@@ -639,7 +639,7 @@ fn push_refused_connects(page: &mut Page<'_>, origins: &Origins) -> Result<(), A
     )?;
     for origin in origins.as_slice() {
         let whose = ("origin", origin.name());
-        page.sample_with_two_labels(name, whose, ("cause", "limit"), origin.beyond_bound)?;
+        page.sample_with_two_labels(name, whose, ("cause", "limit"), origin.refused_beyond_bound)?;
         page.sample_with_two_labels(name, whose, ("cause", "silent"), origin.while_silent)?;
     }
     Ok(())

@@ -26,11 +26,11 @@ pub use crate::accept_counts::{
     ConnectionAttemptCounts, TroubleCounts, is_out_of_descriptors, is_out_of_ports,
 };
 pub use crate::counted_shelf::{CountedShelf, StoreCounts};
-pub use crate::endings::{ClientEndCounts, CutReason, Lateness};
+pub use crate::endings::{ClientEndCounts, CutReason, ExceededClientLimit};
 pub use crate::figures::{ClientFigures, Figures, LinkFigures, ProgramFacts, RecordState};
 pub use crate::line_origins::LineOrigins;
-pub use crate::link_timeouts::{LinkOvertime, LinkTimeouts};
-pub use crate::origins::{Admission, Origin, Origins};
+pub use crate::link_timeouts::{ExceededLinkLimit, LinkTimeouts};
+pub use crate::origins::{LinkAdmission, Origin, Origins};
 pub use crate::process::ProcessFigures;
 pub use crate::reply_counts::ReplyCounts;
 pub use crate::sorts::{ReplySort, Source, reply_sort_of};

@@ -1,12 +1,12 @@
 //! How often the time of a link to an origin was over.
 ghost use Rattle.std.specs.Prelude.{◌≡◌};
-ghost use Rattle.proxy_figures.specs.EndingCounts.{link_timeouts_with};
+ghost use Rattle.proxy_figures.specs.EndingCounts.{link_timeouts_with_one_more};
 
 use crate::counts::count_plus_one;
 
 /// Which time of a link is over.
 #[derive(Clone, Copy, PartialEq, Eq)]
-pub enum LinkOvertime {
+pub enum ExceededLinkLimit {
     Connect,
     Silence,
     Exchange,
@@ -31,13 +31,13 @@ impl LinkTimeouts {
         }
     }
 
-    pub fn count(&mut self, overtime: LinkOvertime)
-        ensures { self.new ≡ link_timeouts_with self.old overtime }
+    pub fn count(&mut self, overtime: ExceededLinkLimit)
+        ensures { self.new ≡ link_timeouts_with_one_more self.old overtime }
     {
         match overtime {
-            LinkOvertime::Connect => self.connect = count_plus_one(self.connect),
-            LinkOvertime::Silence => self.silence = count_plus_one(self.silence),
-            LinkOvertime::Exchange => self.exchange = count_plus_one(self.exchange),
+            ExceededLinkLimit::Connect => self.connect = count_plus_one(self.connect),
+            ExceededLinkLimit::Silence => self.silence = count_plus_one(self.silence),
+            ExceededLinkLimit::Exchange => self.exchange = count_plus_one(self.exchange),
         }
     }
 }

@@ -3,17 +3,18 @@ ghost use Rattle.std.specs.Prelude.{◌≡◌, ◌≢◌, ◌<◌, ◌+◌, true
 ghost use Rattle.std.specs.Prelude.{OnErr, IfSome, IfNone};
 ghost use Rattle.std.specs.Option.{option_and_then};
 ghost use Rattle.proxy_figures.specs.Counts.{count_plus_one_if};
-ghost use Rattle.proxy_figures.specs.Origins.{is_silent, is_crowded, admission_of_origin, origin_with_admission};
+ghost use Rattle.proxy_figures.specs.Origins.{is_silent, is_crowded, admission_of_link_to_origin};
+ghost use Rattle.proxy_figures.specs.Origins.{origin_with_refusal_if_not_admitted};
 ghost use Rattle.proxy_figures.specs.Origins.{origin_with_answer, origin_with_failure};
 ghost use Rattle.proxy_figures.specs.Origins.{origin_with_failure_covered_by_store};
 ghost use Rattle.proxy_figures.specs.Origins.{origin_with_reply, name_of_origin, admission_of_known_origin};
-ghost use Rattle.proxy_figures.specs.Origins.{origin_with_written_bytes, origin_with_received_bytes};
-ghost use Rattle.proxy_figures.specs.Origins.{origin_with_link_begun, IsNewOrigin};
+ghost use Rattle.proxy_figures.specs.Origins.{origin_with_written_bytes, origin_heard_with_received_bytes};
+ghost use Rattle.proxy_figures.specs.Origins.{origin_with_link_begun, IsFreshOriginOfAddress};
 ghost use Rattle.proxy_figures.specs.Origins.{origin_with_link_ended, origin_with_one_more_silence, origin_changed_at};
-ghost use Rattle.proxy_figures.specs.Origins.{falls_silent, known_origin_falls_silent};
+ghost use Rattle.proxy_figures.specs.Origins.{falls_silent, origin_if_any_falls_silent};
 ghost use Rattle.proxy_figures.specs.OriginsModel.{some_origin_is_crowded, addresses, AddressIsOfNoOrigin};
-ghost use Rattle.proxy_figures.specs.OriginsModel.{PlaceIsOfOriginWithAddress};
-ghost use Rattle.proxy_figures.specs.OriginsModel.{connects_refused_beyond_bound};
+ghost use Rattle.proxy_figures.specs.OriginsModel.{OriginWithAddressIsFoundOrAdded};
+ghost use Rattle.proxy_figures.specs.OriginsModel.{total_connects_refused_beyond_bound};
 
 use crate::counts::{count, count_plus, count_plus_one, count_plus_one_if};
 use crate::limits::SILENT_EXCHANGES;
@@ -46,13 +47,13 @@ pub struct Origin {
     /// A link asks whether it answers again.
     is_probed: bool,
     /// Connects that were refused at once: as many links were open as may be, or it is silent.
-    pub beyond_bound: u64,
+    pub refused_beyond_bound: u64,
     pub while_silent: u64,
 }
 
 /// Whether a link to an origin may be begun.
 #[derive(Clone, Copy, PartialEq, Eq)]
-pub enum Admission {
+pub enum LinkAdmission {
     Yes,
     /// It asks whether a silent origin answers again.
     AsProbe,
@@ -60,9 +61,9 @@ pub enum Admission {
 }
 
 /// The hundreds of statuses, and the kinds of failures, in the order of their counts.
-pub(crate) const STATUS_CLASSES: &[&str] = &["2xx", "3xx", "4xx", "5xx"];
+pub(crate) const STATUS_CLASS_LABELS: &[&str] = &["2xx", "3xx", "4xx", "5xx"];
 
-pub(crate) const FAILURE_KINDS: &[&str] = &[
+pub(crate) const FAILURE_KIND_LABELS: &[&str] = &[
     "refused",
     "timed-out",
     "closed",
@@ -72,16 +73,16 @@ pub(crate) const FAILURE_KINDS: &[&str] = &[
 ];
 
 /// How many there are of each.
-const STATUS_CLASS_COUNT: usize = STATUS_CLASSES.len();
+const STATUS_CLASS_COUNT: usize = STATUS_CLASS_LABELS.len();
 
-const FAILURE_KIND_COUNT: usize = FAILURE_KINDS.len();
+const FAILURE_KIND_COUNT: usize = FAILURE_KIND_LABELS.len();
 
 /// Where failures are counted for which a stored response was sent.
-pub(crate) const COVERED_FAILURES: usize = 5;
+pub(crate) const COVERED_FAILURES_INDEX: usize = 5;
 
 impl Origin {
     fn new(alloc: Global, address: SocketAddrV4) -> Result<Origin, AllocError>
-        ensures { IfOk result (IsNewOrigin address) }
+        ensures { IfOk result (IsFreshOriginOfAddress address) }
     {
         Ok(Origin {
             address,
@@ -95,7 +96,7 @@ impl Origin {
             failures: [0; FAILURE_KIND_COUNT],
             silences: 0,
             is_probed: false,
-            beyond_bound: 0,
+            refused_beyond_bound: 0,
             while_silent: 0,
         })
     }
@@ -122,45 +123,46 @@ impl Origin {
     }
 
     /// Whether a further link may be begun; where not, that is counted.
-    fn admit(&mut self, most: u64, probes: bool) -> Admission
-        ensures admission { result ≡ admission_of_origin most probes self.old }
-        ensures counted { self.new ≡ origin_with_admission (admission_of_origin most probes self.old) most self.old }
+    fn admit(&mut self, most: u64, probes: bool) -> LinkAdmission
+        ensures admission { result ≡ admission_of_link_to_origin most probes self.old }
+        ensures counted { self.new ≡ origin_with_refusal_if_not_admitted
+            (admission_of_link_to_origin most probes self.old) most self.old }
     {
         if self.open >= most {
-            self.beyond_bound = count_plus_one(self.beyond_bound);
-            return Admission::No;
+            self.refused_beyond_bound = count_plus_one(self.refused_beyond_bound);
+            return LinkAdmission::No;
         }
         if !probes || !self.is_silent() {
-            return Admission::Yes;
+            return LinkAdmission::Yes;
         }
         if self.is_probed {
             self.while_silent = count_plus_one(self.while_silent);
-            return Admission::No;
+            return LinkAdmission::No;
         }
-        Admission::AsProbe
+        LinkAdmission::AsProbe
     }
 
     /// A link to it is begun, as it was admitted.
-    fn begin(&mut self, admission: Admission)
+    fn begin(&mut self, admission: LinkAdmission)
         ensures { self.new ≡ origin_with_link_begun admission self.old }
     {
         match admission {
-            Admission::No => return,
-            Admission::Yes => {}
-            Admission::AsProbe => self.is_probed = true,
+            LinkAdmission::No => return,
+            LinkAdmission::Yes => {}
+            LinkAdmission::AsProbe => self.is_probed = true,
         }
         self.begun = count_plus_one(self.begun);
         self.open = count_plus_one(self.open);
     }
 
     /// A link to it has ended, which had been admitted so, so many milliseconds after it began.
-    fn end(&mut self, admission: Admission, milliseconds: u64)
+    fn end(&mut self, admission: LinkAdmission, milliseconds: u64)
         ensures { self.new ≡ origin_with_link_ended admission milliseconds self.old }
     {
         match admission {
-            Admission::No => return,
-            Admission::Yes => {}
-            Admission::AsProbe => self.is_probed = false,
+            LinkAdmission::No => return,
+            LinkAdmission::Yes => {}
+            LinkAdmission::AsProbe => self.is_probed = false,
         }
         self.open = self.open.saturating_sub(1);
         self.times.add(milliseconds);
@@ -168,7 +170,7 @@ impl Origin {
 
     /// So many bytes came from it: it isn't silent.
     fn hear(&mut self, count: usize)
-        ensures { self.new ≡ origin_with_received_bytes count self.old }
+        ensures { self.new ≡ origin_heard_with_received_bytes count self.old }
     {
         self.silences = 0;
         self.received = count_plus(self.received, count as u64);
@@ -213,7 +215,7 @@ impl Origin {
     fn count_covered(&mut self)
         ensures { self.new ≡ origin_with_failure_covered_by_store self.old }
     {
-        count(&mut self.failures, COVERED_FAILURES);
+        count(&mut self.failures, COVERED_FAILURES_INDEX);
     }
 
     /// Counts what the origin said or did, by the reply that was made of it.
@@ -272,7 +274,7 @@ impl Origins {
 
     /// The place of an address, which is added where it is new.
     pub fn place(&mut self, address: SocketAddrV4) -> Result<usize, AllocError>
-        ensures placed { IfOk result (λ place. PlaceIsOfOriginWithAddress address self.old place self.new) }
+        ensures placed { IfOk result (λ place. OriginWithAddressIsFoundOrAdded address self.old place self.new) }
         ensures err { OnErr result (self.new ≡ self.old) }
     {
         if let Some(place) = place_of(self.items.as_slice(), address) {
@@ -320,29 +322,30 @@ impl Origins {
     }
 
     /// Whether a further link to an origin may be begun; where not, that is counted.
-    pub fn admit(&mut self, place: usize, probes: bool) -> Admission
+    pub fn admit(&mut self, place: usize, probes: bool) -> LinkAdmission
         ensures admission { result ≡ admission_of_known_origin self.old.most probes
             (slice_get self.old.items place) }
         ensures counted { self.new.items ≡ origin_changed_at place
-            (λ origin. origin_with_admission (admission_of_origin self.old.most probes origin) self.old.most origin)
+            (λ origin. origin_with_refusal_if_not_admitted
+            (admission_of_link_to_origin self.old.most probes origin) self.old.most origin)
             self.old.items }
         ensures rest { self.new ≡ record self.old { items = self.new.items } }
     {
         let most = self.most;
         match self.items.get_mut(place) {
             Some(origin) => origin.admit(most, probes),
-            None => Admission::No,
+            None => LinkAdmission::No,
         }
     }
 
     /// A link is begun; one that isn't admitted is none.
-    pub fn begin(&mut self, place: usize, admission: Admission)
-        ensures at { admission ≢ Admission.No → self.new.items
+    pub fn begin(&mut self, place: usize, admission: LinkAdmission)
+        ensures at { admission ≢ LinkAdmission.No → self.new.items
             ≡ origin_changed_at place (origin_with_link_begun admission) self.old.items }
         ensures rest { self.new ≡ record self.old { items = self.new.items } }
-        ensures refused { admission ≡ Admission.No → self.new ≡ self.old }
+        ensures refused { admission ≡ LinkAdmission.No → self.new ≡ self.old }
     {
-        if admission == Admission::No {
+        if admission == LinkAdmission::No {
             return;
         }
         let most = self.most;
@@ -354,13 +357,13 @@ impl Origins {
     }
 
     /// A link has ended, so many milliseconds after it began.
-    pub fn end(&mut self, place: usize, admission: Admission, milliseconds: u64)
-        ensures at { admission ≢ Admission.No → self.new.items
+    pub fn end(&mut self, place: usize, admission: LinkAdmission, milliseconds: u64)
+        ensures at { admission ≢ LinkAdmission.No → self.new.items
             ≡ origin_changed_at place (origin_with_link_ended admission milliseconds) self.old.items }
         ensures rest { self.new ≡ record self.old { items = self.new.items } }
-        ensures refused { admission ≡ Admission.No → self.new ≡ self.old }
+        ensures refused { admission ≡ LinkAdmission.No → self.new ≡ self.old }
     {
-        if admission == Admission::No {
+        if admission == LinkAdmission::No {
             return;
         }
         let most = self.most;
@@ -373,7 +376,7 @@ impl Origins {
 
     /// So many bytes came from an origin.
     pub fn count_received_bytes(&mut self, place: usize, count: usize)
-        ensures at { self.new.items ≡ origin_changed_at place (origin_with_received_bytes count) self.old.items }
+        ensures at { self.new.items ≡ origin_changed_at place (origin_heard_with_received_bytes count) self.old.items }
         ensures rest { self.new ≡ record self.old { items = self.new.items } }
     {
         if let Some(origin) = self.items.get_mut(place) {
@@ -385,7 +388,7 @@ impl Origins {
     pub fn count_silent_exchange(&mut self, place: usize)
         ensures at { self.new.items ≡ origin_changed_at place origin_with_one_more_silence self.old.items }
         ensures fallen { self.new.times_fallen_silent ≡ count_plus_one_if
-            (known_origin_falls_silent (slice_get self.old.items place)) self.old.times_fallen_silent }
+            (origin_if_any_falls_silent (slice_get self.old.items place)) self.old.times_fallen_silent }
         ensures most { self.new.most ≡ self.old.most }
     {
         if let Some(origin) = self.items.get_mut(place) {
@@ -395,12 +398,12 @@ impl Origins {
     }
 
     /// How often connects were refused at once since as many links were open as may be.
-    pub fn beyond_bound(&self) -> u64
-        ensures { result ≡ connects_refused_beyond_bound self.now.items }
+    pub fn refused_beyond_bound(&self) -> u64
+        ensures { result ≡ total_connects_refused_beyond_bound self.now.items }
     {
         let mut count = 0u64;
         for origin in &self.items {
-            count = count.saturating_add(origin.beyond_bound);
+            count = count.saturating_add(origin.refused_beyond_bound);
         }
         count
     }

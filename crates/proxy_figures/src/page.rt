@@ -4,8 +4,8 @@
 ghost use Rattle.std.specs.Prelude.{◌≡◌, ◌++◌, [], decimal, codes, OnOk};
 ghost use Rattle.proxy_log.specs.Seconds.{seconds_text};
 ghost use Rattle.proxy_figures.specs.Page.{metric_kind_text, metric_family_header_text, metric_label_text};
-ghost use Rattle.proxy_figures.specs.Page.{sample_name_text, further_label_text};
-ghost use Rattle.proxy_figures.specs.Page.{metric_value_text};
+ghost use Rattle.proxy_figures.specs.Page.{metric_sample_start_text, further_label_text};
+ghost use Rattle.proxy_figures.specs.Page.{metric_sample_end_text};
 ghost use Rattle.proxy_figures.specs.Page.{metric_sample_text, sample_with_label_text, sample_with_two_labels_text};
 
 use itoa::Buffer;
@@ -102,7 +102,7 @@ impl<'a> Page<'a> {
     fn push_sample_name(&mut self, name: &str) -> Result<(), AllocError>
         ensures listen { self.new.listen ≡ self.old.listen }
         ensures text { OnOk result (self.new.text.items ≡ self.old.text.items
-            ++ sample_name_text self.old.listen.now name.now) }
+            ++ metric_sample_start_text self.old.listen.now name.now) }
     {
         let listen = self.listen;
         self.push(name)?;
@@ -122,7 +122,7 @@ impl<'a> Page<'a> {
     /// The value of a sample, and its end.
     fn value(&mut self, n: u64) -> Result<(), AllocError>
         ensures listen { self.new.listen ≡ self.old.listen }
-        ensures text { OnOk result (self.new.text.items ≡ self.old.text.items ++ metric_value_text (decimal n)) }
+        ensures text { OnOk result (self.new.text.items ≡ self.old.text.items ++ metric_sample_end_text (decimal n)) }
     {
         let mut digits = Buffer::new();
         self.push("} ")?;
@@ -134,7 +134,7 @@ impl<'a> Page<'a> {
     fn time_value(&mut self, milliseconds: u64) -> Result<(), AllocError>
         ensures listen { self.new.listen ≡ self.old.listen }
         ensures text { OnOk result (self.new.text.items ≡ self.old.text.items
-            ++ metric_value_text (seconds_text milliseconds)) }
+            ++ metric_sample_end_text (seconds_text milliseconds)) }
     {
         self.push("} ")?;
         push_seconds(&mut self.text, milliseconds)?;

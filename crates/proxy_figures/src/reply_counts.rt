@@ -4,7 +4,8 @@ ghost use Rattle.proxy_figures.specs.Counts.{counts_with_one_more, count_plus_on
 ghost use Rattle.proxy_figures.specs.NotStored.{not_stored_counts_with, storing_rule_place};
 ghost use Rattle.proxy_figures.specs.ReplyCounts.{reply_place, cause_place, cause_counts_with, empty_reply_times};
 ghost use Rattle.proxy_figures.specs.ReplyCounts.{reply_times_with};
-ghost use Rattle.proxy_figures.specs.ReplyCounts.{store_times_with, origin_times_with, proxy_times_with};
+ghost use Rattle.proxy_figures.specs.ReplyCounts.{times_with_reply_if_from_store, times_with_reply_if_from_origin};
+ghost use Rattle.proxy_figures.specs.ReplyCounts.{times_with_reply_if_by_proxy};
 ghost use Rattle.proxy_figures.specs.Sorts.{source_of_reply_sort};
 ghost use Rattle.proxy_figures.specs.Times.{time_bucket_of};
 ghost use Rattle.proxy_figures.specs.declared.not_stored.TheConstants.{STORING_RULE_COUNT};
@@ -137,11 +138,14 @@ impl ReplyCounts {
         ensures statuses { self.new.statuses ≡ counts_with_one_more self.old.statuses (status - 200) }
         ensures stored { self.new.stored ≡ count_plus_one_if sort.now.stored self.old.stored }
         ensures collapsed { self.new.collapsed ≡ count_plus_one_if sort.now.collapsed self.old.collapsed }
-        ensures from_store { self.new.from_store ≡ store_times_with (source_of_reply_sort sort.now) milliseconds
+        ensures from_store { self.new.from_store
+            ≡ times_with_reply_if_from_store (source_of_reply_sort sort.now) milliseconds
             self.old.from_store }
-        ensures from_origin { self.new.from_origin ≡ origin_times_with (source_of_reply_sort sort.now) milliseconds
+        ensures from_origin { self.new.from_origin ≡ times_with_reply_if_from_origin (source_of_reply_sort sort.now)
+            milliseconds
             self.old.from_origin }
-        ensures from_proxy { self.new.from_proxy ≡ proxy_times_with (source_of_reply_sort sort.now) milliseconds
+        ensures from_proxy { self.new.from_proxy
+            ≡ times_with_reply_if_by_proxy (source_of_reply_sort sort.now) milliseconds
             self.old.from_proxy }
     {
         count(&mut self.reasons, place_of(sort.reason, sort.detail));
@@ -164,25 +168,25 @@ impl ReplyCounts {
         }
     }
 
-    pub(crate) fn count_with_reason(&self, reason: Reason, detail: Detail) -> u64
+    pub(crate) fn replies_with_reason(&self, reason: Reason, detail: Detail) -> u64
         ensures { result ≡ unwrap_or (slice_get self.now.reasons (reply_place reason detail)) 0 }
     {
         count_at(&self.reasons, place_of(reason, detail))
     }
 
-    pub(crate) fn count_with_cause(&self, cause: Cause) -> u64
+    pub(crate) fn replies_with_cause(&self, cause: Cause) -> u64
         ensures { result ≡ unwrap_or (slice_get self.now.causes (cause_place cause)) 0 }
     {
         count_at(&self.causes, cause.place())
     }
 
-    pub(crate) fn count_with_storing_rule(&self, rule: StoreRule) -> u64
+    pub(crate) fn replies_with_storing_rule(&self, rule: StoreRule) -> u64
         ensures { result ≡ unwrap_or (slice_get self.now.not_stored (storing_rule_place rule)) 0 }
     {
         count_at(&self.not_stored, storing_rule_place(rule))
     }
 
-    pub(crate) fn count_with_status(&self, status: u16) -> u64
+    pub(crate) fn replies_with_status(&self, status: u16) -> u64
         ensures { result ≡ unwrap_or (slice_get self.now.statuses (status - 200)) 0 }
     {
         count_at(&self.statuses, status.saturating_sub(FIRST_STATUS) as usize)

@@ -6,7 +6,8 @@ ghost use Rattle.proxy_figures.specs.ReplyCounts.{reason_row, detail_column, cau
 ghost use Rattle.proxy_figures.specs.ReplySorts.{reason_of_rule, reason_of_handling, reason_of_refusal};
 ghost use Rattle.proxy_figures.specs.ReplySorts.{detail_of_rule, detail_of_step, detail_of_handling};
 ghost use Rattle.proxy_figures.specs.ReplySorts.{detail_told_by_status};
-ghost use Rattle.proxy_figures.specs.ReplySorts.{cause_of_failure, cause_of_message, cause_of_target, cause_of_refusal};
+ghost use Rattle.proxy_figures.specs.ReplySorts.{cause_of_failure, cause_of_message, cause_of_target_fault};
+ghost use Rattle.proxy_figures.specs.ReplySorts.{cause_of_refusal};
 ghost use Rattle.proxy_figures.specs.ReplySorts.{reply_sort_without_detail, reply_sort_of_handled};
 ghost use Rattle.proxy_figures.specs.ReplySorts.{reply_sort_of_refusal, reply_sort_of_told};
 ghost use Rattle.proxy_figures.specs.Sorts.{reason_name, detail_name, cause_name, source_of_reply_sort};
@@ -459,7 +460,7 @@ impl Cause {
 
     /// What is wrong with a target. No request is answered for want of memory.
     fn of_target(fault: TargetFault) -> Option<Cause>
-        ensures { result ≡ cause_of_target fault }
+        ensures { result ≡ cause_of_target_fault fault }
     {
         match fault {
             TargetFault::Form => Some(Cause::Form),

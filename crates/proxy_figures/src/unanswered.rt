@@ -5,7 +5,7 @@ ghost use Rattle.proxy_figures.specs.Unanswered.{unanswered_place, unanswered_na
 ghost use Rattle.proxy_figures.specs.declared.unanswered.TheConstants.{UNANSWERED_CAUSE_COUNT};
 
 use crate::counts::{count, count_at};
-use crate::endings::{CutReason, Lateness};
+use crate::endings::{CutReason, ExceededClientLimit};
 
 /// Why a request was never answered.
 #[derive(Clone, Copy, PartialEq, Eq)]
@@ -82,13 +82,13 @@ impl UnansweredCause {
     }
 
     /// Of a client whose time was over.
-    pub fn of_late_client(lateness: Lateness) -> UnansweredCause
+    pub fn of_late_client(lateness: ExceededClientLimit) -> UnansweredCause
         ensures { result ≡ cause_of_lateness lateness }
     {
         match lateness {
-            Lateness::Client => UnansweredCause::ClientTimeout,
-            Lateness::Request => UnansweredCause::RequestTimeout,
-            Lateness::Abandon => UnansweredCause::AbandonTimeout,
+            ExceededClientLimit::Client => UnansweredCause::ClientTimeout,
+            ExceededClientLimit::Request => UnansweredCause::RequestTimeout,
+            ExceededClientLimit::Abandon => UnansweredCause::AbandonTimeout,
         }
     }
 }

@@ -11,7 +11,7 @@ use std::{fmt, io};
 
 /// Why a command ends early. Most have words for what it was about; none where there was no memory for them.
 #[derive(Drop)]
-pub enum CommandFault {
+pub enum CommandFailure {
     /// The command line is none of the program's.
     Usage(Option<String>),
     /// The operator's table is at fault; where, if that can be told.
@@ -38,29 +38,29 @@ pub fn system_call_words(
 }
 
 /// What a call of the system that failed is told as: out of memory for what it is, else as this fault.
-pub fn fault_of(error: &io::Error, other: CommandFault) -> CommandFault {
+pub fn fault_of(error: &io::Error, other: CommandFailure) -> CommandFailure {
     if error.kind() == ErrorKind::OutOfMemory {
-        CommandFault::NoMemory
+        CommandFailure::NoMemory
     } else {
         other
     }
 }
 
-impl From<AllocError> for CommandFault {
-    fn from(_error: AllocError) -> CommandFault {
-        CommandFault::NoMemory
+impl From<AllocError> for CommandFailure {
+    fn from(_error: AllocError) -> CommandFailure {
+        CommandFailure::NoMemory
     }
 }
 
-impl fmt::Display for CommandFault {
+impl fmt::Display for CommandFailure {
     fn fmt<W: fmt::Write>(&self, f: &mut Formatter<W>) -> fmt::Result {
         match self {
-            CommandFault::Usage(_) => f.write_str("usage fault"),
-            CommandFault::Table(fault, _) => write!(f, "{fault}"),
-            CommandFault::Read(_) => f.write_str("read fault"),
-            CommandFault::Write(_) => f.write_str("write fault"),
-            CommandFault::Answers => f.write_str("answers differ"),
-            CommandFault::NoMemory => f.write_str("no memory"),
+            CommandFailure::Usage(_) => f.write_str("usage fault"),
+            CommandFailure::Table(fault, _) => write!(f, "{fault}"),
+            CommandFailure::Read(_) => f.write_str("read fault"),
+            CommandFailure::Write(_) => f.write_str("write fault"),
+            CommandFailure::Answers => f.write_str("answers differ"),
+            CommandFailure::NoMemory => f.write_str("no memory"),
         }
     }
 }
@@ -73,16 +73,16 @@ pub fn print_words<R: Print>(rt: &R, words: &Option<String>) -> io::Result<()> {
     }
 }
 
-impl CommandFault {
+impl CommandFailure {
     /// The program's exit status: 64 for the command line, 2 where the table is at fault, 3 where it answers otherwise,
     /// else 1.
     pub fn exit_status(&self) -> u8
         ensures { result ≡ exit_status_of_command_fault self.now }
     {
         match self {
-            CommandFault::Usage(_) => 64,
-            CommandFault::Table(fault, _) => fault.exit_status(),
-            CommandFault::Answers => 3,
+            CommandFailure::Usage(_) => 64,
+            CommandFailure::Table(fault, _) => fault.exit_status(),
+            CommandFailure::Answers => 3,
             _ => 1,
         }
     }
@@ -90,16 +90,16 @@ impl CommandFault {
     /// Says on standard output what it was about, and what to do.
     pub fn explain<R: Print>(&self, rt: &R) -> io::Result<()> {
         match self {
-            CommandFault::Usage(words) => print_words(rt, words),
-            CommandFault::Table(ReplayFault::Config(fault), place) => {
+            CommandFailure::Usage(words) => print_words(rt, words),
+            CommandFailure::Table(ReplayFault::Config(fault), place) => {
                 println!(rt; "{fault}")?;
                 print_words(rt, place)
             }
-            CommandFault::Table(_, _) => Ok(()),
-            CommandFault::Read(words) => print_words(rt, words),
-            CommandFault::Write(words) => print_words(rt, words),
-            CommandFault::Answers => Ok(()),
-            CommandFault::NoMemory => {
+            CommandFailure::Table(_, _) => Ok(()),
+            CommandFailure::Read(words) => print_words(rt, words),
+            CommandFailure::Write(words) => print_words(rt, words),
+            CommandFailure::Answers => Ok(()),
+            CommandFailure::NoMemory => {
                 println!(rt;
                     "memory was refused; give the process more, or lower capacity, max_body or max_stored"
                 )

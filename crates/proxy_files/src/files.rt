@@ -2,7 +2,7 @@
 ghost use Rattle.std.specs.Prelude.{IfOk, IfSome};
 ghost use Rattle.proxy_files.specs.TableFiles.{IsWholeOrTooLong, NoTableIsTruncated};
 
-use crate::command_fault::{CommandFault, fault_of, system_call_words};
+use crate::command_fault::{CommandFailure, fault_of, system_call_words};
 use hx_allow::MOST_TABLE_BYTES;
 use hx_allow::laws::a_table_is_toml_within_the_limit;
 use std::alloc::Global;
@@ -45,12 +45,15 @@ fn read_text<R: Files + AllocGlobal>(rt: &R, path: &str) -> io::Result<String> {
 }
 
 /// The text of a file of questions, of 16 MiB at most.
-pub fn read_questions<R: Files + AllocGlobal>(rt: &R, path: &str) -> Result<String, CommandFault> {
+pub fn read_questions<R: Files + AllocGlobal>(
+    rt: &R,
+    path: &str,
+) -> Result<String, CommandFailure> {
     match read_text(rt, path) {
         Ok(text) => Ok(text),
         Err(e) => {
             let words = system_call_words(rt.alloc(), "the questions ", path, " can't be read", &e);
-            Err(fault_of(&e, CommandFault::Read(words)))
+            Err(fault_of(&e, CommandFailure::Read(words)))
         }
     }
 }
@@ -71,12 +74,12 @@ pub fn read_start<R: Files + AllocGlobal>(rt: &R, path: &str) -> Option<Vec<u8>>
 }
 
 /// The bytes of a table's file, as far as they matter.
-pub fn read_table<R: Files + AllocGlobal>(rt: &R, path: &str) -> Result<Vec<u8>, CommandFault> {
+pub fn read_table<R: Files + AllocGlobal>(rt: &R, path: &str) -> Result<Vec<u8>, CommandFailure> {
     match read_some(rt, path) {
         Ok(text) => Ok(text),
         Err(e) => {
             let words = system_call_words(rt.alloc(), "the table ", path, " can't be read", &e);
-            Err(fault_of(&e, CommandFault::Read(words)))
+            Err(fault_of(&e, CommandFailure::Read(words)))
         }
     }
 }

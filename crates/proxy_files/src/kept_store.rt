@@ -5,12 +5,12 @@
 ghost use Rattle.std.specs.Prelude.{◌≡◌, [], IfOk, OnErr};
 ghost use Rattle.proxy_engine.specs.Beginnings.{ResponsesMayBeHeldAtStart};
 
-use crate::command_fault::{CommandFault, fault_of, system_call_words};
+use crate::command_fault::{CommandFailure, fault_of, system_call_words};
 use crate::memory::megabytes;
-use hx_allow::Config;
+use hx_allow::Table;
 use hx_store::Shelf;
 use proxy_kept_store::{a_server_may_begin_empty, read_kept_store};
-use proxy_store_file::{EntryPart, StoreFault, WriteFault, write_store};
+use proxy_store_file::{EntryPart, StoreReadFault, WriteFault, write_and_empty_store};
 use std::alloc::AllocError;
 use std::fmt::Formatter;
 use std::fs::{OpenFile, OpenOptions};
@@ -24,7 +24,7 @@ const LARGE: u64 = 268_435_456;
 
 /// Why a file isn't used, in words for the operator.
 #[derive(Clone, Copy)]
-struct Refusal(StoreFault);
+struct Refusal(StoreReadFault);
 
 fn part_words(part: EntryPart) -> &'static str {
     match part {
@@ -40,30 +40,32 @@ fn part_words(part: EntryPart) -> &'static str {
 impl fmt::Display for Refusal {
     fn fmt<W: fmt::Write>(&self, f: &mut Formatter<W>) -> fmt::Result {
         match self.0 {
-            StoreFault::NotAStore => f.write_str("it is no file of a store"),
-            StoreFault::Version => f.write_str("its format is of another version"),
-            StoreFault::Entries => f.write_str("it has more responses than the table's capacity"),
-            StoreFault::Short(n) => write!(f, "it ends early, behind {n} whole responses"),
-            StoreFault::Entry(n, part) => {
+            StoreReadFault::NotAStore => f.write_str("it is no file of a store"),
+            StoreReadFault::Version => f.write_str("its format is of another version"),
+            StoreReadFault::Entries => f.write_str(
+                "it has more responses than the table's capacity",
+            ),
+            StoreReadFault::Short(n) => write!(f, "it ends early, behind {n} whole responses"),
+            StoreReadFault::Entry(n, part) => {
                 write!(
                     f,
                     "the {} of response {n} can't be what they were",
                     part_words(part)
                 )
             }
-            StoreFault::Serial(n) => {
+            StoreReadFault::Serial(n) => {
                 write!(
                     f,
                     "the serial of response {n} stood before, or is no smaller than the next"
                 )
             }
-            StoreFault::Weight(n) => {
+            StoreReadFault::Weight(n) => {
                 write!(f, "with response {n} it is above the table's max_store")
             }
-            StoreFault::Digest => f.write_str("its digest isn't that of its bytes"),
-            StoreFault::Long => f.write_str("bytes follow its end"),
-            StoreFault::Read => f.write_str("it can't be read on"),
-            StoreFault::OutOfMemory => f.write_str("memory ran out"),
+            StoreReadFault::Digest => f.write_str("its digest isn't that of its bytes"),
+            StoreReadFault::Long => f.write_str("bytes follow its end"),
+            StoreReadFault::Read => f.write_str("it can't be read on"),
+            StoreReadFault::OutOfMemory => f.write_str("memory ran out"),
         }
     }
 }
@@ -150,16 +152,16 @@ impl<'a> KeptStore<'a> {
     }
 
     /// That something can't be done with the file.
-    fn fault<R: AllocGlobal>(&self, rt: &R, behind: &str, error: &io::Error) -> CommandFault {
+    fn fault<R: AllocGlobal>(&self, rt: &R, behind: &str, error: &io::Error) -> CommandFailure {
         let words = system_call_words(rt.alloc(), "the store ", self.path, behind, error);
-        fault_of(error, CommandFault::Write(words))
+        fault_of(error, CommandFailure::Write(words))
     }
 
     /// Takes the file away, so that no later start reads it, and opens it; nothing where none is there.
     fn take<R: Files + Eprint + AllocGlobal>(
         &self,
         rt: &R,
-    ) -> Result<Option<R::File>, CommandFault> {
+    ) -> Result<Option<R::File>, CommandFailure> {
         match fs::rename(rt, self.path, self.taken.as_str()) {
             Ok(()) => {}
             Err(e) if e.kind() == ErrorKind::NotFound => return Ok(None),
@@ -193,10 +195,10 @@ impl<'a> KeptStore<'a> {
     fn read<R: Files + AllocGlobal, S: Shelf>(
         &self,
         rt: &R,
-        config: &Config,
+        config: &Table,
         shelf: &mut S,
         file: R::File,
-    ) -> Result<u64, StoreFault>
+    ) -> Result<u64, StoreReadFault>
         requires empty { S.entries shelf.old ≡ [] }
         requires capacity { S.limit shelf.old ≡ config.now.capacity }
         ensures may { IfOk result (λ first. ResponsesMayBeHeldAtStart config.now (S.entries shelf.new) first) }
@@ -205,12 +207,12 @@ impl<'a> KeptStore<'a> {
     {
         match BufReader::new(rt.alloc(), file) {
             Ok(mut reader) => read_kept_store(rt.alloc(), config, shelf, &mut reader),
-            Err(_) => Err(StoreFault::OutOfMemory),
+            Err(_) => Err(StoreReadFault::OutOfMemory),
         }
     }
 
     /// Keeps a file that isn't used, and tells why.
-    fn refuse<R: Files + Eprint>(&self, rt: &R, fault: StoreFault) {
+    fn refuse<R: Files + Eprint>(&self, rt: &R, fault: StoreReadFault) {
         let why = Refusal(fault);
         match fs::rename(rt, self.taken.as_str(), self.refused.as_str()) {
             Ok(()) => {
@@ -235,9 +237,9 @@ impl<'a> KeptStore<'a> {
     pub fn restore<R: Files + Eprint + AllocGlobal, S: Shelf>(
         &self,
         rt: &R,
-        config: &Config,
+        config: &Table,
         shelf: &mut S,
-    ) -> Result<u64, CommandFault>
+    ) -> Result<u64, CommandFailure>
         requires empty { S.entries shelf.old ≡ [] }
         requires capacity { S.limit shelf.old ≡ config.now.capacity }
         ensures may { IfOk result (λ first. ResponsesMayBeHeldAtStart config.now (S.entries shelf.new) first) }
@@ -286,7 +288,7 @@ impl<'a> KeptStore<'a> {
         rt: &R,
         shelf: &mut S,
         next: u64,
-    ) -> Result<(), CommandFault> {
+    ) -> Result<(), CommandFailure> {
         let mut how = OpenOptions::new();
         // It holds what was sent: nobody else is to read it.
         how.write(true).create_new(true).mode(0o600);
@@ -296,18 +298,18 @@ impl<'a> KeptStore<'a> {
         };
         let mut writer = match BufWriter::new(rt.alloc(), file) {
             Ok(writer) => writer,
-            Err(_) => return Err(CommandFault::NoMemory),
+            Err(_) => return Err(CommandFailure::NoMemory),
         };
-        match write_store(rt.alloc(), next, shelf, &mut writer) {
+        match write_and_empty_store(rt.alloc(), next, shelf, &mut writer) {
             Ok(()) => {}
-            Err(WriteFault::OutOfMemory) => return Err(CommandFault::NoMemory),
+            Err(WriteFault::OutOfMemory) => return Err(CommandFailure::NoMemory),
             Err(fault) => {
                 let words = format!(in rt.alloc();
                     "the store {} can't be written: {}",
                     self.path,
                     write_fault_words(fault)
                 );
-                return Err(CommandFault::Write(words.ok()));
+                return Err(CommandFailure::Write(words.ok()));
             }
         }
         if let Err(e) = writer.flush() {
@@ -326,7 +328,7 @@ impl<'a> KeptStore<'a> {
         rt: &R,
         shelf: &mut S,
         next: u64,
-    ) -> Result<(), CommandFault> {
+    ) -> Result<(), CommandFailure> {
         if shelf.weight() >= LARGE {
             let size = megabytes(shelf.weight());
             let _ = eprintln!(rt; "the store {} is written: {size} MB", self.path);

@@ -1,9 +1,9 @@
 //! How much memory the bounds of a table and of a server allow, and how much there is.
 ghost use Rattle.std.specs.Prelude.{◌≡◌};
-ghost use Rattle.proxy_files.specs.Memory.{most_store_bytes, most_held_bytes, megabytes};
+ghost use Rattle.proxy_files.specs.Memory.{most_store_bytes, most_bytes_held_beside_store, megabytes};
 
 use crate::files::read_start;
-use hx_allow::Config;
+use hx_allow::Table;
 use std::alloc::AllocError;
 use std::rt::Files;
 use std::{io, str};
@@ -33,7 +33,7 @@ pub fn megabytes(bytes: u64) -> u64
 }
 
 /// Bytes that the store takes, at most: by the number of its responses, and by what they weigh, where that is bounded.
-pub fn most_store_bytes(config: &Config) -> u64
+pub fn most_store_bytes(config: &Table) -> u64
     ensures { result ≡ most_store_bytes config.now.capacity config.now.max_stored config.now.max_store }
 {
     let each = (config.max_stored() as u64).saturating_add(BESIDE_CONTENT);
@@ -46,8 +46,8 @@ pub fn most_store_bytes(config: &Config) -> u64
 
 /// Bytes that are held beside the store, at most: what is in progress, whose room is up to twice its size, and
 /// connections.
-pub fn most_held_bytes(content: usize, connections: usize) -> u64
-    ensures { result ≡ most_held_bytes content connections }
+pub fn most_bytes_held_beside_store(content: usize, connections: usize) -> u64
+    ensures { result ≡ most_bytes_held_beside_store content connections }
 {
     let contents = (content as u64).saturating_mul(2);
     contents.saturating_add((connections as u64).saturating_mul(CONNECTION))
@@ -182,7 +182,7 @@ pub fn memory_allowed<R: Files + AllocGlobal>(rt: &R) -> Option<MemoryBound> {
 /// Tells what the store of a table takes, and where that is more than there is.
 pub fn print_store_memory<R: Print + Files + AllocGlobal>(
     rt: &R,
-    config: &Config,
+    config: &Table,
 ) -> io::Result<()> {
     let most = most_store_bytes(config);
     println!(rt; "the store takes {} MB at most", megabytes(most))?;

@@ -1,12 +1,12 @@
 //! Where in a table its fault is: the line of the file where it stops being TOML, or where a key stands that isn't
 //! known.
-ghost use Rattle.proxy_files.specs.TableFiles.{BytesAreConfigOrFault};
+ghost use Rattle.proxy_files.specs.TableFiles.{BytesAreTableOrFault};
 
-use crate::command_fault::CommandFault;
-use hx_allow::{Config, ConfigFault};
+use crate::command_fault::CommandFailure;
+use hx_allow::{Table, TableFault};
 use proxy_replay::ReplayFault;
 use std::alloc::Global;
-use toml::{Table, Value};
+use toml::{Table as TomlTable, Value};
 
 /// The keys at the top of a table.
 const TOP_KEYS: [&str; 6] = [
@@ -34,7 +34,7 @@ fn has_key(line: &Value, key: &str) -> bool {
 }
 
 /// The number of the first line that has a key, from 1.
-fn line_with(table: &Table, key: &str) -> Option<usize> {
+fn line_with(table: &TomlTable, key: &str) -> Option<usize> {
     let lines = table.get("line")?.as_array()?;
     for (place, line) in lines.iter().enumerate() {
         if has_key(line, key) {
@@ -45,7 +45,7 @@ fn line_with(table: &Table, key: &str) -> Option<usize> {
 }
 
 /// Whether the top of a table has a key: `max_store` is one of version 4.
-fn is_known_at_top(table: &Table, key: &str) -> bool {
+fn is_known_at_top(table: &TomlTable, key: &str) -> bool {
     TOP_KEYS.contains(&key)
         || (key == "max_store" && table.get("version").and_then(Value::as_integer) == Some(4))
 }
@@ -62,23 +62,23 @@ fn place_of_key(alloc: Global, table: &[u8], key: &[u8]) -> Option<String> {
 }
 
 /// Where a table's fault is, where the fault itself doesn't say it.
-fn place_of(alloc: Global, table: &[u8], fault: &ConfigFault) -> Option<String> {
+fn place_of(alloc: Global, table: &[u8], fault: &TableFault) -> Option<String> {
     match fault {
-        ConfigFault::NotToml => place_of_break(alloc, table),
-        ConfigFault::UnknownKey(key) => place_of_key(alloc, table, key.as_slice()),
+        TableFault::NotToml => place_of_break(alloc, table),
+        TableFault::UnknownKey(key) => place_of_key(alloc, table, key.as_slice()),
         _ => None,
     }
 }
 
 /// Reads a table; a fault says where it is.
-pub fn config_of(alloc: Global, table: &[u8]) -> Result<Config, CommandFault>
-    ensures { BytesAreConfigOrFault table.now result }
+pub fn config_of(alloc: Global, table: &[u8]) -> Result<Table, CommandFailure>
+    ensures { BytesAreTableOrFault table.now result }
 {
-    match Config::read(alloc, table) {
+    match Table::read(alloc, table) {
         Ok(config) => Ok(config),
         Err(fault) => {
             let place = place_of(alloc, table, &fault);
-            Err(CommandFault::Table(ReplayFault::Config(fault), place))
+            Err(CommandFailure::Table(ReplayFault::Config(fault), place))
         }
     }
 }

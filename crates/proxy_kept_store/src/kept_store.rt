@@ -6,10 +6,10 @@ ghost use Rattle.proxy_engine.specs.Beginnings.{ResponsesMayBeHeldAtStart};
 ghost use Rattle.proxy_store_file.specs.Stores.{read_store};
 ghost use Rattle.proxy_store_file.specs.Streams.{ReaderGaveReading, ReaderIsRefusedFor, bounds_of, store_contents_of};
 
-use hx_allow::Config;
+use hx_allow::Table;
 use hx_store::Shelf;
 use proxy_store_file::laws::read_stores_are_valid;
-use proxy_store_file::{StoreFault, read_store};
+use proxy_store_file::{StoreReadFault, read_store};
 use std::alloc::Global;
 use std::io::Read;
 
@@ -18,10 +18,10 @@ use std::io::Read;
 /// a fault the shelf is empty.
 pub fn read_kept_store<S: Shelf, R: Read>(
     alloc: Global,
-    config: &Config,
+    config: &Table,
     shelf: &mut S,
     reader: &mut R,
-) -> Result<u64, StoreFault>
+) -> Result<u64, StoreReadFault>
     requires empty { S.entries shelf.old ≡ [] }
     requires capacity { S.limit shelf.old ≡ config.now.capacity }
     ensures ok { IfOk result

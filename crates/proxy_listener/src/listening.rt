@@ -3,7 +3,7 @@
 //! A socket that is handed on stays open when the process ends: whoever connects then waits in the system's queue until
 //! the next process listens. No contract can say what a descriptor is, so it is asked of the system.
 ghost use Rattle.std.specs.Prelude.{IsErr};
-ghost use Rattle.proxy_listener.specs.HandedOn.{IsNoSocketsDescriptor, ListenAtMustBeRefused};
+ghost use Rattle.proxy_listener.specs.HandedOn.{IsStandardOrFailedDescriptor, ListenDescriptorIsNoSocket};
 
 use crate::stream_options::set_stream_options;
 use libc::net as c;
@@ -51,7 +51,7 @@ fn listen_on(listener: &net::TcpListener) -> io::Result<()> {
 
 /// Takes a socket that was handed on. One that can't be listened on is closed.
 fn handed_on(fd: RawFd) -> io::Result<TcpListener>
-    ensures { IsNoSocketsDescriptor fd → IsErr result }
+    ensures { IsStandardOrFailedDescriptor fd → IsErr result }
 {
     if fd < FIRST_HANDED_ON {
         return no_listener();
@@ -66,7 +66,7 @@ fn handed_on(fd: RawFd) -> io::Result<TcpListener>
 /// says: the address is in use or isn't the machine's, the descriptor isn't open, no socket or one of another family;
 /// and, as an invalid input, where a socket that was handed on can't be listened on.
 pub fn listen<R: Net>(net: &R, at: ListenAt) -> io::Result<TcpListener>
-    ensures { ListenAtMustBeRefused at → IsErr result }
+    ensures { ListenDescriptorIsNoSocket at → IsErr result }
 {
     let listener = match at {
         ListenAt::Address(address) => TcpListener::bind(net, address)?,

@@ -2,7 +2,7 @@
 use Rattle.std.proofs.Common.{◌≡◌, ℕ, ◌==◌, not, Bool, true, false, List, [], ◌∷◌, ◌++◌, refl, ap}
 use Rattle.std.proofs.lemmas.Bool.{false≢true}
 use Rattle.std.specs.List.{list_all}
-use Rattle.proxy_log.specs.TextLines.{byte_in_first_line, whole_lines}
+use Rattle.proxy_log.specs.TextLines.{lines_with_byte_in_front, whole_lines}
 use Rattle.proxy_log.proofs.LineBytes.{both}
 
 not_is : (b : Bool) → not b ≡ true → b ≡ false
@@ -14,4 +14,4 @@ pub first_line_is : (line rest : List ℕ) → list_all (λ b. not (b == 10)) li
 first_line_is [] rest none = refl
 first_line_is (b ∷ bs) rest none =
     let parts = both (not (b == 10)) (list_all (λ b. not (b == 10)) bs) none in
-    rw (not_is (b == 10) parts.0) (ap (byte_in_first_line b) (first_line_is bs rest parts.1))
+    rw (not_is (b == 10) parts.0) (ap (lines_with_byte_in_front b) (first_line_is bs rest parts.1))

@@ -9,8 +9,8 @@ use Rattle.std.specs.Char.{is_ascii_digit}
 use Rattle.hx_framing.proofs.WrittenFields.{decimal_back}
 use Rattle.hx_target.specs.declared.keys.Key.{Key}
 use Rattle.proxy_log.specs.Asked.{port_suffix, uri_text}
-use Rattle.proxy_log.specs.Line.{LineWords, is_logged_unescaped, hex_digit, logged_byte, logged_text, logged_word, log_line_text, logged_uri, status_word}
-use Rattle.proxy_log.specs.OneLine.{TextIsOneLine, LogLineIsInRange, is_byte, is_visible, is_log_word}
+use Rattle.proxy_log.specs.Line.{LogLineWords, is_logged_unescaped, hex_digit, logged_byte, logged_text, logged_word, log_line_text, logged_uri, status_word}
+use Rattle.proxy_log.specs.OneLine.{TextIsVisibleLineWithLf, LogLineValuesAreInRange, is_byte, is_visible, is_log_word}
 use Rattle.proxy_log.specs.Seconds.{seconds_text, three_digits}
 
 pub all_both : (p : ℕ → Bool) (xs ys : List ℕ) → list_all p xs ≡ true → list_all p ys ≡ true → list_all p (xs ++ ys) ≡ true
@@ -118,7 +118,7 @@ word_behind : {xs ys : List ℕ} → AreVisible xs → AreVisible ys → AreVisi
 word_behind {xs} {ys} first second =
     record { are = all_both is_visible (xs ++ codes " ") ys (all_both is_visible xs (codes " ") first.are refl) second.are }
 
-words_are_visible : (line : LineWords) → LogLineIsInRange line
+words_are_visible : (line : LogLineWords) → LogLineValuesAreInRange line
     → AreVisible (seconds_text line.moment ++ codes " " ++ logged_word line.client ++ codes " " ++ logged_word line.method ++ codes " " ++ logged_word line.target
     ++ codes " " ++ status_word line.status ++ codes " " ++ decimal line.length ++ codes " " ++ logged_text true line.reason ++ codes " "
     ++ seconds_text line.took ++ codes " " ++ logged_word line.origin)
@@ -134,7 +134,7 @@ words_are_visible line given =
     (record { are = time_is_visible line.took given.took }))
     (record { are = word_is_visible line.origin given.origin })
 
-pub line_is_one_line : (line : LineWords) → LogLineIsInRange line → TextIsOneLine (log_line_text line)
+pub line_is_one_line : (line : LogLineWords) → LogLineValuesAreInRange line → TextIsVisibleLineWithLf (log_line_text line)
 line_is_one_line line given = record {
   front = _;
   is = refl;

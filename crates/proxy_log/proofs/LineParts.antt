@@ -2,7 +2,7 @@
 use Rattle.std.proofs.Common.{◌≡◌, ◌<◌, ◌≤◌, ◌+◌, ℕ, Bool, List, ◌++◌, length, ap, sym, ◌∙◌, arith, Result, Ok, Err, OnOk, OnErr, codes, decimal, refl, true}
 use Rattle.std.proofs.lemmas.List.{append_assoc, length-append}
 use Rattle.std.specs.Fmt.{digits}
-use Rattle.proxy_log.specs.Line.{LineWords, logged_byte, logged_text, logged_word, log_line_text, log_line_front, log_line_answer, log_line_end, status_word}
+use Rattle.proxy_log.specs.Line.{LogLineWords, logged_byte, logged_text, logged_word, log_line_text, log_line_front, log_line_answer, log_line_end, status_word}
 use Rattle.proxy_log.specs.Seconds.{seconds_text}
 
 pub on_err : {A E P : Type 0} (r : Result A E) → P → OnErr r P
@@ -33,7 +33,7 @@ before_four : (f k s o n : List ℕ) → f ++ (k ++ s ++ o ++ n) ≡ f ++ k ++ s
 before_four f k s o n =
     sym (append_assoc f (k ++ s ++ o) n) ∙ ap (λ (z : List ℕ). z ++ n) (sym (append_assoc f (k ++ s) o) ∙ ap (λ (z : List ℕ). z ++ o) (sym (append_assoc f k s)))
 
-pub line_is : (line : LineWords) → log_line_front line ++ (log_line_answer line ++ log_line_end line) ≡ log_line_text line
+pub line_is : (line : LogLineWords) → log_line_front line ++ (log_line_answer line ++ log_line_end line) ≡ log_line_text line
 unfolding log_line_front log_line_answer log_line_end
 line_is line =
     sym (append_assoc (log_line_front line) (log_line_answer line) (log_line_end line))

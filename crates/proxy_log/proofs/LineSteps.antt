@@ -4,7 +4,7 @@ use Rattle.std.proofs.lemmas.Bool.{false_from_ne_true}
 use Rattle.std.specs.Option.{option_map}
 use Rattle.memchr.specs.Find.{IsFirstByte, is_byte}
 use Rattle.hx_fields.specs.Names.{split_at_first_byte}
-use Rattle.proxy_log.specs.TextLines.{whole_lines, byte_in_first_line}
+use Rattle.proxy_log.specs.TextLines.{whole_lines, lines_with_byte_in_front}
 
 pub cut_found : (byte k : ℕ) (text : List ℕ) → IsFirstByte (is_byte byte) text (Some k) → split_at_first_byte byte text ≡ Some (take k text, drop (suc k) text)
 cut_found byte k [] found = absurd (omega (arith, found.0.high))
@@ -37,13 +37,13 @@ pub lines_are_cut : (text : List ℕ) → whole_lines text ≡ lines_cut (split_
 lines_are_cut [] = refl
 lines_are_cut (b ∷ bs) = by_test (b == 10) (lines_are_cut bs)
   where
-    in_front : (r : Option (List ℕ × List ℕ)) → byte_in_first_line b (lines_cut r) ≡ lines_cut (option_map (λ p. (b ∷ p.0, p.1)) r)
+    in_front : (r : Option (List ℕ × List ℕ)) → lines_with_byte_in_front b (lines_cut r) ≡ lines_cut (option_map (λ p. (b ∷ p.0, p.1)) r)
     in_front None = refl
     in_front (Some p) = refl
 
-    by_test : (t : Bool) → whole_lines bs ≡ lines_cut (split_at_first_byte 10 bs) → cond t (([], bs) ∷ whole_lines bs) (byte_in_first_line b (whole_lines bs)) ≡ lines_cut (cond t (Some ([], bs)) (option_map (λ p. (b ∷ p.0, p.1)) (split_at_first_byte 10 bs)))
+    by_test : (t : Bool) → whole_lines bs ≡ lines_cut (split_at_first_byte 10 bs) → cond t (([], bs) ∷ whole_lines bs) (lines_with_byte_in_front b (whole_lines bs)) ≡ lines_cut (cond t (Some ([], bs)) (option_map (λ p. (b ∷ p.0, p.1)) (split_at_first_byte 10 bs)))
     by_test true later = refl
-    by_test false later = ap (byte_in_first_line b) later ∙ in_front (split_at_first_byte 10 bs)
+    by_test false later = ap (lines_with_byte_in_front b) later ∙ in_front (split_at_first_byte 10 bs)
 
 -- a text whose first line was cut
 pub lines_at : (text : List ℕ) (p : List ℕ × List ℕ) → Some p ≡ split_at_first_byte 10 text → whole_lines text ≡ p ∷ whole_lines p.1

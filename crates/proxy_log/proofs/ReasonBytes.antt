@@ -15,8 +15,8 @@ use Rattle.hx_reuse.specs.declared.rule.ReuseRule.TheVariants.{UriMiss}
 use Rattle.hx_reuse.specs.declared.rule.ErrorRule.{ErrorRule}
 use Rattle.hx_reuse.specs.declared.rule.ErrorRule.TheVariants as on_error
 use Rattle.hx_reuse.specs.RuleNames.{reuse_rule_detail, error_rule_word, reuse_rule_reason}
-use Rattle.hx_status.specs.Abouts.{cache_status_parameters_text, handling_text, reason_text}
-use Rattle.hx_status.specs.Member.{detail_of_step_or_rule, text_if_flag, fwd_status_text, not_stored_word, ttl_text, detail_word, detail_word_or_not_stored, detail_word_text}
+use Rattle.hx_status.specs.Abouts.{cache_status_parameters_text, handling_text, reply_reason_text}
+use Rattle.hx_status.specs.Member.{detail_of_step_or_rule, text_if_flag, fwd_status_text, not_stored_word, ttl_text, detail_word, detail_word_or_not_stored, parameter_of_detail_word}
 use Rattle.hx_status.specs.Refusals.{error_rule_text, frame_fault_word, fail_kind_word, fwd_parameters_of_rule, target_fault_word, refusal_text}
 use Rattle.hx_status.specs.declared.about.Told.{Told}
 use Rattle.hx_status.specs.declared.about.Told.TheVariants as told
@@ -86,7 +86,7 @@ reason_stands : (rule : ReuseRule) → list_all stands (reuse_rule_reason rule) 
 reason_stands UriMiss = refl
 reason_stands _ = refl
 
-detail_stands : (rule : ReuseRule) → list_all stands (detail_word_text (reuse_rule_detail rule)) ≡ true
+detail_stands : (rule : ReuseRule) → list_all stands (parameter_of_detail_word (reuse_rule_detail rule)) ≡ true
 detail_stands UriMiss = refl
 detail_stands _ = refl
 
@@ -106,11 +106,11 @@ target_stands : (fault : TargetFault) → list_all stands (target_fault_word fau
 target_stands target.Form = refl
 target_stands _ = refl
 
-step_stands : (detail : Detail) → list_all stands (detail_word_text (Some (detail_word detail))) ≡ true
+step_stands : (detail : Detail) → list_all stands (parameter_of_detail_word (Some (detail_word detail))) ≡ true
 step_stands StaleIfError = refl
 step_stands _ = refl
 
-not_stored_stands : (rule : StoreRule) → list_all stands (detail_word_text (Some (not_stored_word rule))) ≡ true
+not_stored_stands : (rule : StoreRule) → list_all stands (parameter_of_detail_word (Some (not_stored_word rule))) ≡ true
 not_stored_stands Operator = refl
 not_stored_stands _ = refl
 
@@ -132,15 +132,15 @@ flag_stands : (flag : Bool) (text : List ℕ) → Stands text → Stands (text_i
 flag_stands true text all = all
 flag_stands false text all = word [] refl
 
-named_stands : (detail : Option Detail) (how : How) → Stands (detail_word_text (detail_of_step_or_rule detail how))
-named_stands (Some detail) how = word (detail_word_text (Some (detail_word detail))) (step_stands detail)
+named_stands : (detail : Option Detail) (how : How) → Stands (parameter_of_detail_word (detail_of_step_or_rule detail how))
+named_stands (Some detail) how = word (parameter_of_detail_word (Some (detail_word detail))) (step_stands detail)
 named_stands None Hit = word [] refl
-named_stands None (Fwd rule) = word (detail_word_text (reuse_rule_detail rule)) (detail_stands rule)
+named_stands None (Fwd rule) = word (parameter_of_detail_word (reuse_rule_detail rule)) (detail_stands rule)
 
-stands_or : (o : Option (List ℕ)) (rule : Option StoreRule) → Stands (detail_word_text o) → Stands (detail_word_text (detail_word_or_not_stored o rule))
+stands_or : (o : Option (List ℕ)) (rule : Option StoreRule) → Stands (parameter_of_detail_word o) → Stands (parameter_of_detail_word (detail_word_or_not_stored o rule))
 stands_or (Some text) rule all = all
 stands_or None None all = all
-stands_or None (Some rule) all = word (detail_word_text (Some (not_stored_word rule))) (not_stored_stands rule)
+stands_or None (Some rule) all = word (parameter_of_detail_word (Some (not_stored_word rule))) (not_stored_stands rule)
 
 parameters_stand : (status : Status) → Stands (cache_status_parameters_text status)
 parameters_stand status =
@@ -153,7 +153,7 @@ parameters_stand status =
 
 rule_stands : (rule : ReuseRule) → Stands (fwd_parameters_of_rule rule)
 rule_stands rule =
-    joined (joined (word (codes ";fwd=") refl) (word (reuse_rule_reason rule) (reason_stands rule))) (word (detail_word_text (reuse_rule_detail rule)) (detail_stands rule))
+    joined (joined (word (codes ";fwd=") refl) (word (reuse_rule_reason rule) (reason_stands rule))) (word (parameter_of_detail_word (reuse_rule_detail rule)) (detail_stands rule))
 
 errors_stand : (error : Option ErrorRule) → Stands (error_rule_text error)
 errors_stand None = word [] refl
@@ -169,7 +169,7 @@ cause_stands (Origin kind rule error) =
 cause_stands (Frame fault) = joined (word (codes "refused: ") refl) (word (frame_fault_word fault) (frame_stands fault))
 cause_stands (Target fault) = joined (word (codes "refused: ") refl) (word (target_fault_word fault) (target_stands fault))
 
-reply_stands : (told : Told) → Stands (reason_text told)
+reply_stands : (told : Told) → Stands (reply_reason_text told)
 reply_stands (told.Handled status) = parameters_stand status
 reply_stands (told.Refused cause) = cause_stands cause
 reply_stands (told.Purged count) = joined (word (codes "Purged: ") refl) (decimal_stands count)
@@ -182,8 +182,8 @@ unescaped (b ∷ bs) all =
     let parts = both (stands b) (list_all stands bs) all in
     rw parts.0 (ap (λ (text : List ℕ). b ∷ text) (unescaped bs parts.1))
 
-pub told_unescaped : (told : Told) → logged_text true (reason_text told) ≡ reason_text told
-told_unescaped told = unescaped (reason_text told) (reply_stands told).all
+pub told_unescaped : (told : Told) → logged_text true (reply_reason_text told) ≡ reply_reason_text told
+told_unescaped told = unescaped (reply_reason_text told) (reply_stands told).all
 
 behind : (front cause : List ℕ) → logged_text true (front ++ cause) ≡ logged_text true front ++ logged_text true cause
 behind [] cause = refl

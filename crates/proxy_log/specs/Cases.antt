@@ -6,10 +6,10 @@ use Rattle.hx_status.specs.declared.about.Told.TheVariants.{Handled}
 use Rattle.hx_status.specs.declared.status.How.TheVariants.{Hit, Fwd}
 use Rattle.hx_target.specs.declared.keys.Key.{Key}
 use Rattle.proxy_log.specs.Asked.{AskedWords}
-use Rattle.proxy_log.specs.Line.{LineWords}
+use Rattle.proxy_log.specs.Line.{LogLineWords}
 
 -- a GET for a target URI that was answered 200 with five bytes, when, why, after how long and by which origin
-abbrev pub log_words_of_get : ℕ → List ℕ → ℕ → List ℕ → LineWords
+abbrev pub log_words_of_get : ℕ → List ℕ → ℕ → List ℕ → LogLineWords
 log_words_of_get moment reason took origin =
     record {
       moment = moment;
@@ -24,8 +24,8 @@ log_words_of_get moment reason took origin =
     }
 
 -- what couldn't be read as a request
-abbrev pub unread_request_line : List ℕ → LineWords
-unread_request_line reason =
+abbrev pub example_line_of_unread_request : List ℕ → LogLineWords
+example_line_of_unread_request reason =
     record {
       moment = 0;
       client = codes "127.0.0.1:40001";
@@ -39,7 +39,7 @@ unread_request_line reason =
     }
 
 -- a POST whose content is too large; its target is as it came
-abbrev pub refused_post_line : List ℕ → LineWords
+abbrev pub refused_post_line : List ℕ → LogLineWords
 refused_post_line target =
     record {
       moment = 0;
@@ -54,8 +54,8 @@ refused_post_line target =
     }
 
 -- a target that is no URI
-abbrev pub unread_request_line_with_target : List ℕ → LineWords
-unread_request_line_with_target target =
+abbrev pub example_line_of_unread_target : List ℕ → LogLineWords
+example_line_of_unread_target target =
     record {
       moment = 7;
       client = codes "127.0.0.1:40001";
@@ -97,5 +97,5 @@ abbrev pub key_of : List ℕ → ℕ → List ℕ → Key
 key_of host port path_query = record { host = host; port = port; path_query = path_query }
 
 -- a method and a target; or nothing that could be read
-abbrev pub asked_words_if_read : List ℕ → List ℕ → AskedWords
-asked_words_if_read method target = record { method = method; target = target }
+abbrev pub words_of_method_and_target : List ℕ → List ℕ → AskedWords
+words_of_method_and_target method target = record { method = method; target = target }

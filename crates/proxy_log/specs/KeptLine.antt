@@ -1,7 +1,8 @@
 -- What is kept of a head: its first line that isn't empty stands for all of it.
 --
 -- has_no_lf: no line ends in a text
--- RequestLineOfHeadIsKept: what is kept of a head that has come so far      RequestLineIsDiscarded: nothing is kept of
+-- RequestLineOfHeadIsKept: what is kept of a head that has come so far      RequestLineIsEmptyAndOver: nothing is kept
+-- of
 -- it, nor will be
 use Rattle.std.specs.Prelude.{◌≡◌, ℕ, ◌==◌, not, Bool, true, false, List, [], ◌++◌}
 use Rattle.std.specs.List.{list_all}
@@ -18,5 +19,5 @@ pub record RequestLineOfHeadIsKept (head : List ℕ) (line : RequestLine) : Type
   pub unended : line.is_over ≡ false → has_no_lf line.text.items ≡ true
   pub over : line.is_over ≡ true → (more : List ℕ) → first_line (line.text.items ++ more) ≡ first_line line.text.items
 
-abbrev pub RequestLineIsDiscarded : RequestLine → Type 0
-RequestLineIsDiscarded line = (line.text.items ≡ []) × (line.is_over ≡ true)
+abbrev pub RequestLineIsEmptyAndOver : RequestLine → Type 0
+RequestLineIsEmptyAndOver line = (line.text.items ≡ []) × (line.is_over ≡ true)

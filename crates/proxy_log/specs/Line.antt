@@ -4,12 +4,12 @@
 -- is_logged_unescaped, logged_byte, logged_text: bytes as they stand in a line, so that none of them breaks it
 -- logged_word: a word, which is never empty
 -- status_word: a status
--- LineWords, log_words_of_line: what a line says      logged_reason_text: its reason
+-- LogLineWords, words_of_log_line: what a line says      logged_reason_text: its reason
 -- log_line_text: the line
 -- unanswered_reason: what stands in the place of the reason where a request was never answered
 use Rattle.std.specs.Prelude.{ℕ, ◌+◌, ◌/◌, ◌%◌, ◌==◌, Bool, true, false, not, ◌&&◌, ◌||◌, nat_lt, if◌then◌else◌, List}
 use Rattle.std.specs.Prelude.{[], ◌∷◌, ◌++◌, codes, decimal}
-use Rattle.hx_status.specs.Abouts.{reason_text}
+use Rattle.hx_status.specs.Abouts.{reply_reason_text}
 use Rattle.hx_target.specs.declared.keys.Key.{Key}
 use Rattle.proxy_log.specs.Asked.{port_suffix, target_text}
 use Rattle.proxy_log.specs.Seconds.{seconds_text}
@@ -41,7 +41,7 @@ logged_word (b ∷ bs) = logged_text false (b ∷ bs)
 
 -- What a line says: when a reply was written, whom it went to, what it answers, its status, the bytes of its content,
 -- what it tells of itself, how long it took, and the origin that was asked. Moments and times are milliseconds.
-pub record LineWords : Type 0 where
+pub record LogLineWords : Type 0 where
   pub moment : ℕ
   pub client : List ℕ
   pub method : List ℕ
@@ -58,11 +58,11 @@ unanswered_reason cause = codes "left;cause=" ++ cause
 
 -- what the reply tells of itself, or why there was none
 abbrev pub logged_reason_text : LoggedReason → List ℕ
-logged_reason_text (OfReply told) = reason_text told.now
+logged_reason_text (OfReply told) = reply_reason_text told.now
 logged_reason_text (OfUnanswered cause) = unanswered_reason cause.now
 
-abbrev pub log_words_of_line : Line → LineWords
-log_words_of_line line = record {
+abbrev pub words_of_log_line : Line → LogLineWords
+words_of_log_line line = record {
   moment = line.moment;
   client = line.client.now;
   method = line.asked.method.now;
@@ -79,7 +79,7 @@ abbrev pub status_word : ℕ → List ℕ
 status_word status = if status == 0 then codes "000" else decimal status
 
 -- the nine words
-abbrev pub log_line_text : LineWords → List ℕ
+abbrev pub log_line_text : LogLineWords → List ℕ
 log_line_text line =
     seconds_text line.moment ++ codes " " ++ logged_word line.client ++ codes " " ++ logged_word line.method ++ codes " "
     ++ logged_word line.target
@@ -93,14 +93,14 @@ logged_uri key = codes "http://" ++ logged_text false key.host ++ port_suffix ke
     ++ logged_text false key.path_query ++ codes " "
 
 -- the same in three parts: who asked for what, what it was told, and what that took
-unfoldable pub log_line_front : LineWords → List ℕ
+unfoldable pub log_line_front : LogLineWords → List ℕ
 log_line_front line =
     seconds_text line.moment ++ codes " " ++ logged_word line.client ++ codes " " ++ logged_word line.method ++ codes " "
     ++ logged_word line.target ++ codes " "
 
-unfoldable pub log_line_answer : LineWords → List ℕ
+unfoldable pub log_line_answer : LogLineWords → List ℕ
 log_line_answer line =
     status_word line.status ++ codes " " ++ decimal line.length ++ codes " " ++ logged_text true line.reason ++ codes " "
 
-unfoldable pub log_line_end : LineWords → List ℕ
+unfoldable pub log_line_end : LogLineWords → List ℕ
 log_line_end line = seconds_text line.took ++ codes " " ++ logged_word line.origin ++ codes "\n"

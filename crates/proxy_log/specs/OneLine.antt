@@ -1,7 +1,7 @@
 -- What is promised of a line's text, whatever a client and an origin sent.
 use Rattle.std.specs.Prelude.{◌≡◌, ◌<◌, ◌^◌, ℕ, ◌==◌, Bool, true, not, ◌&&◌, nat_lt, List, ◌++◌, codes}
 use Rattle.std.specs.List.{list_all}
-use Rattle.proxy_log.specs.Line.{LineWords}
+use Rattle.proxy_log.specs.Line.{LogLineWords}
 
 abbrev pub is_byte : ℕ → Bool
 is_byte b = nat_lt b 256
@@ -11,7 +11,7 @@ abbrev pub is_visible : ℕ → Bool
 is_visible b = not (nat_lt b 0x20) && not (nat_lt 0x7E b)
 
 -- an LF ends it, and in front of that all is visible
-pub record TextIsOneLine (text : List ℕ) : Type 0 where
+pub record TextIsVisibleLineWithLf (text : List ℕ) : Type 0 where
   pub front : List ℕ
   pub is : text ≡ front ++ codes "\n"
   pub visible : list_all is_visible front ≡ true
@@ -21,7 +21,7 @@ abbrev pub is_log_word : List ℕ → Bool
 is_log_word text = list_all (λ b. is_visible b && not (b == 32)) text
 
 -- what was handed in are bytes, and numbers of 64 bits
-pub record LogLineIsInRange (line : LineWords) : Type 0 where
+pub record LogLineValuesAreInRange (line : LogLineWords) : Type 0 where
   pub moment : line.moment < 2 ^ 64
   pub status : line.status < 2 ^ 64
   pub length : line.length < 2 ^ 64

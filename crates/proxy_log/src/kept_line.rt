@@ -1,10 +1,10 @@
 //! What is kept of a head that may be refused: its request line, as it came.
 ghost use Rattle.std.specs.Prelude.{◌≡◌, ◌⊎◌, ℕ, List, [], ◌++◌, codes, false, true, OnOk};
 ghost use Rattle.proxy_log.specs.Asked.{asked_words, asked_words_of_head};
-ghost use Rattle.proxy_log.specs.KeptLine.{RequestLineOfHeadIsKept, RequestLineIsDiscarded};
+ghost use Rattle.proxy_log.specs.KeptLine.{RequestLineOfHeadIsKept, RequestLineIsEmptyAndOver};
 
 use crate::logged_request::LoggedRequest;
-use crate::text_lines::{first_line_cut, is_empty_line};
+use crate::text_lines::{is_empty_line, split_at_first_lf};
 use std::alloc::{AllocError, Global};
 
 /// A head has at most so many bytes.
@@ -43,7 +43,7 @@ impl RequestLine {
     pub fn take(&mut self, piece: &[u8])
         ensures kept { (head : List ℕ) → RequestLineOfHeadIsKept head self.old
             → RequestLineOfHeadIsKept (head ++ piece.now) self.new
-            ⊎ RequestLineIsDiscarded self.new }
+            ⊎ RequestLineIsEmptyAndOver self.new }
         ensures over { self.old.is_over ≡ true → self.new ≡ self.old }
     {
         if !self.is_over && self.keep(piece).is_err() {
@@ -79,7 +79,7 @@ impl RequestLine {
             → RequestLineOfHeadIsKept (head ++ piece.now) self.new) }
     {
         let mut rest = piece;
-        while let Some((line, behind)) = first_line_cut(rest) {
+        while let Some((line, behind)) = split_at_first_lf(rest) {
             self.push(line)?;
             if !is_empty_line(self.text.as_slice()) {
                 self.is_over = true;

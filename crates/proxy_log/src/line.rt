@@ -2,17 +2,17 @@
 ghost use Rattle.std.specs.Prelude.{◌≡◌, ◌+◌, ◌<◌, ◌≤◌, ◌++◌, codes, decimal, false, if◌then◌else◌, length, take};
 ghost use Rattle.std.specs.Prelude.{OnErr, OnOk, IsTrue, true, vec_capacity};
 ghost use Rattle.std.specs.List.{list_all};
-ghost use Rattle.hx_status.specs.Abouts.{reason_text};
+ghost use Rattle.hx_status.specs.Abouts.{reply_reason_text};
 ghost use Rattle.proxy_log.specs.Asked.{port_suffix, target_text, uri_text};
 ghost use Rattle.proxy_log.specs.Line.{is_logged_unescaped, hex_digit, logged_byte, logged_text, logged_word};
-ghost use Rattle.proxy_log.specs.Line.{log_words_of_line, log_line_text, status_word};
+ghost use Rattle.proxy_log.specs.Line.{words_of_log_line, log_line_text, status_word};
 ghost use Rattle.proxy_log.specs.Line.{log_line_front, log_line_answer, log_line_end, logged_uri};
 ghost use Rattle.proxy_log.specs.Line.{logged_reason_text, unanswered_reason};
 ghost use Rattle.proxy_log.specs.Seconds.{seconds_text};
 
 use crate::logged_request::{LoggedRequest, LoggedTarget};
 use crate::seconds::push_seconds;
-use hx_status::{Told, push_reason};
+use hx_status::{Told, push_reply_reason_text};
 use hx_target::Key;
 use itoa::Buffer;
 use std::alloc::AllocError;
@@ -311,9 +311,9 @@ fn push_last(text: &mut Vec<u8>, bytes: &[u8]) -> Result<(), AllocError>
 /// Who asked for what, and when.
 #[tactic(auto, unfolding(crate::specs::Line::log_line_front))]
 fn push_front(text: &mut Vec<u8>, line: &Line<'_>) -> Result<(), AllocError>
-    ensures ok { OnOk result (text.new.items ≡ text.old.items ++ log_line_front (log_words_of_line line.now)) }
+    ensures ok { OnOk result (text.new.items ≡ text.old.items ++ log_line_front (words_of_log_line line.now)) }
     ensures full { OnErr result (vec_capacity text.old < length text.old.items + length
-        (log_line_front (log_words_of_line line.now))) }
+        (log_line_front (words_of_log_line line.now))) }
     ensures capacity { vec_capacity text.old ≤ vec_capacity text.new }
     ensures front { take (length text.old.items) text.new.items ≡ text.old.items }
 {
@@ -325,7 +325,7 @@ fn push_front(text: &mut Vec<u8>, line: &Line<'_>) -> Result<(), AllocError>
 
 /// All that a reply tells of itself stands in a line as it is.
 fn told_is_shown(told: &Told)
-    ensures { logged_text true (reason_text told.now) ≡ reason_text told.now }
+    ensures { logged_text true (reply_reason_text told.now) ≡ reply_reason_text told.now }
 {}
 
 /// Each byte of a cause may have to be escaped, and none of what stands before it.
@@ -356,7 +356,7 @@ fn push_logged_reason(text: &mut Vec<u8>, reason: &LoggedReason<'_>) -> Result<(
     match reason {
         LoggedReason::OfReply(told) => {
             told_is_shown(told);
-            push_reason(text, told)
+            push_reply_reason_text(text, told)
         }
         LoggedReason::OfUnanswered(cause) => {
             cause_is_escaped(cause);
@@ -368,9 +368,9 @@ fn push_logged_reason(text: &mut Vec<u8>, reason: &LoggedReason<'_>) -> Result<(
 /// What it was told.
 #[tactic(auto, unfolding(crate::specs::Line::log_line_answer))]
 fn push_answer(text: &mut Vec<u8>, line: &Line<'_>) -> Result<(), AllocError>
-    ensures ok { OnOk result (text.new.items ≡ text.old.items ++ log_line_answer (log_words_of_line line.now)) }
+    ensures ok { OnOk result (text.new.items ≡ text.old.items ++ log_line_answer (words_of_log_line line.now)) }
     ensures full { OnErr result (vec_capacity text.old < length text.old.items + length
-        (log_line_answer (log_words_of_line line.now))) }
+        (log_line_answer (words_of_log_line line.now))) }
     ensures capacity { vec_capacity text.old ≤ vec_capacity text.new }
     ensures front { take (length text.old.items) text.new.items ≡ text.old.items }
 {
@@ -383,9 +383,9 @@ fn push_answer(text: &mut Vec<u8>, line: &Line<'_>) -> Result<(), AllocError>
 /// How long that took, and which origin was asked.
 #[tactic(auto, unfolding(crate::specs::Line::log_line_end))]
 fn push_end(text: &mut Vec<u8>, line: &Line<'_>) -> Result<(), AllocError>
-    ensures ok { OnOk result (text.new.items ≡ text.old.items ++ log_line_end (log_words_of_line line.now)) }
+    ensures ok { OnOk result (text.new.items ≡ text.old.items ++ log_line_end (words_of_log_line line.now)) }
     ensures full { OnErr result (vec_capacity text.old < length text.old.items + length
-        (log_line_end (log_words_of_line line.now))) }
+        (log_line_end (words_of_log_line line.now))) }
     ensures capacity { vec_capacity text.old ≤ vec_capacity text.new }
     ensures front { take (length text.old.items) text.new.items ≡ text.old.items }
 {
@@ -395,11 +395,11 @@ fn push_end(text: &mut Vec<u8>, line: &Line<'_>) -> Result<(), AllocError>
 
 fn push_parts(text: &mut Vec<u8>, line: &Line<'_>) -> Result<(), AllocError>
     ensures ok { OnOk result (text.new.items ≡ text.old.items
-        ++ (log_line_front (log_words_of_line line.now)
-        ++ (log_line_answer (log_words_of_line line.now) ++ log_line_end (log_words_of_line line.now)))) }
+        ++ (log_line_front (words_of_log_line line.now)
+        ++ (log_line_answer (words_of_log_line line.now) ++ log_line_end (words_of_log_line line.now)))) }
     ensures full { OnErr result (vec_capacity text.old < length text.old.items + length
-        (log_line_front (log_words_of_line line.now)
-        ++ (log_line_answer (log_words_of_line line.now) ++ log_line_end (log_words_of_line line.now)))) }
+        (log_line_front (words_of_log_line line.now)
+        ++ (log_line_answer (words_of_log_line line.now) ++ log_line_end (words_of_log_line line.now)))) }
     ensures capacity { vec_capacity text.old ≤ vec_capacity text.new }
     ensures front { take (length text.old.items) text.new.items ≡ text.old.items }
 {
@@ -410,9 +410,9 @@ fn push_parts(text: &mut Vec<u8>, line: &Line<'_>) -> Result<(), AllocError>
 
 /// Adds the text of a line, with its LF. Its only error is out of memory, where there is no room for the text.
 pub(crate) fn push_line(text: &mut Vec<u8>, line: &Line<'_>) -> Result<(), AllocError>
-    ensures ok { OnOk result (text.new.items ≡ text.old.items ++ log_line_text (log_words_of_line line.now)) }
+    ensures ok { OnOk result (text.new.items ≡ text.old.items ++ log_line_text (words_of_log_line line.now)) }
     ensures full { OnErr result (vec_capacity text.old < length text.old.items + length
-        (log_line_text (log_words_of_line line.now))) }
+        (log_line_text (words_of_log_line line.now))) }
     ensures capacity { vec_capacity text.old ≤ vec_capacity text.new }
     ensures front { take (length text.old.items) text.new.items ≡ text.old.items }
 {

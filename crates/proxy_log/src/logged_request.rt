@@ -1,9 +1,9 @@
 //! What a client asked for, as a line of the log names it.
 ghost use Rattle.std.specs.Prelude.{◌≡◌};
-ghost use Rattle.proxy_log.specs.Asked.{asked_words, asked_words_of_head, words_of_question};
+ghost use Rattle.proxy_log.specs.Asked.{asked_words, asked_words_of_head, words_of_replied_question};
 
-use crate::request_line::request_line_of_head;
-use hx_status::{AskedTarget, Question};
+use crate::request_line::method_and_target_of_head;
+use hx_status::{AskedTarget, MethodAndTarget};
 use hx_target::Key;
 
 /// The target of a request, as a line names it.
@@ -25,8 +25,8 @@ pub struct LoggedRequest<'a> {
 
 impl<'a> LoggedRequest<'a> {
     /// What a reply says that it answers.
-    pub fn of_question(question: &'a Question) -> LoggedRequest<'a>
-        ensures { asked_words result ≡ words_of_question question.now }
+    pub fn of_replied_question(question: &'a MethodAndTarget) -> LoggedRequest<'a>
+        ensures { asked_words result ≡ words_of_replied_question question.now }
     {
         LoggedRequest {
             method: question.method.as_str().as_bytes(),
@@ -42,7 +42,7 @@ impl<'a> LoggedRequest<'a> {
     pub fn of_head(head: &'a [u8]) -> LoggedRequest<'a>
         ensures { asked_words result ≡ asked_words_of_head head.now }
     {
-        let (method, target) = request_line_of_head(head).unwrap_or((b"", b""));
+        let (method, target) = method_and_target_of_head(head).unwrap_or((b"", b""));
         LoggedRequest {
             method,
             target: LoggedTarget::AsItCame(target),

@@ -2,7 +2,7 @@
 
 ghost use Rattle.std.specs.Prelude.{◌≡◌, ◌++◌, [], OnErr, OnOk};
 ghost use Rattle.proxy_log.specs.Asked.{asked_words};
-ghost use Rattle.proxy_log.specs.Line.{log_line_text, log_words_of_line};
+ghost use Rattle.proxy_log.specs.Line.{log_line_text, words_of_log_line};
 ghost use Rattle.proxy_log.specs.PendingLines.{HasNoRoomForLine, LineIsAddedOrLost, LineIsLost};
 ghost use Rattle.proxy_log.specs.Replies.{reply_words, unanswered_words};
 
@@ -40,7 +40,7 @@ impl Lines {
 
     /// Adds a line. Where there is neither room nor memory for it, it is lost, and counted.
     pub fn add(&mut self, line: &Line<'_>)
-        ensures { LineIsAddedOrLost (log_line_text (log_words_of_line line.now)) self.old self.new }
+        ensures { LineIsAddedOrLost (log_line_text (words_of_log_line line.now)) self.old self.new }
     {
         match self.write(line) {
             Ok(()) => self.added = self.added.saturating_add(1),
@@ -97,9 +97,9 @@ impl Lines {
     /// Writes a line behind the others, or changes nothing.
     fn write(&mut self, line: &Line<'_>) -> Result<(), AllocError>
         ensures ok { OnOk result (self.new.text.items ≡ self.old.text.items
-            ++ log_line_text (log_words_of_line line.now)) }
+            ++ log_line_text (words_of_log_line line.now)) }
         ensures err { OnErr result (self.new.text.items ≡ self.old.text.items) }
-        ensures full { OnErr result (HasNoRoomForLine (log_line_text (log_words_of_line line.now)) self.old) }
+        ensures full { OnErr result (HasNoRoomForLine (log_line_text (words_of_log_line line.now)) self.old) }
         ensures added { self.new.added ≡ self.old.added }
         ensures lost { self.new.lost ≡ self.old.lost }
     {

@@ -2,9 +2,10 @@
 
 ghost use Rattle.std.specs.Prelude.{◌≡◌, ◌==◌};
 ghost use Rattle.std.specs.Option.{option_map};
-ghost use Rattle.proxy_log.specs.Asked.{first_line, is_target, is_version, method_and_target, request_line_of_head};
+ghost use Rattle.proxy_log.specs.Asked.{first_line, is_target, is_version, parsed_request_line};
+ghost use Rattle.proxy_log.specs.Asked.{method_and_target_of_head};
 
-use crate::text_lines::{first_line_cut, is_empty_line, without_trailing_cr};
+use crate::text_lines::{is_empty_line, split_at_first_lf, without_trailing_cr};
 use hx_fields::{is_token, split_at_first_byte};
 
 /// The first line that isn't empty (RFC 9112, section 2.2). It has to be whole.
@@ -12,7 +13,7 @@ fn first_line(head: &[u8]) -> Option<&[u8]>
     ensures { option_map (λ line. line.now) result ≡ first_line head.now }
 {
     let mut left = head;
-    while let Some((line, behind)) = first_line_cut(left) {
+    while let Some((line, behind)) = split_at_first_lf(left) {
         if is_empty_line(line) {
             left = behind;
         } else {
@@ -45,8 +46,8 @@ fn is_target(text: &[u8]) -> bool
 }
 
 /// The method and the target of a line, where they are parted by single spaces from each other and from the version.
-fn method_and_target(line: &[u8]) -> Option<(&[u8], &[u8])>
-    ensures { option_map (λ p. (p.0.now, p.1.now)) result ≡ method_and_target line.now }
+fn parsed_request_line(line: &[u8]) -> Option<(&[u8], &[u8])>
+    ensures { option_map (λ p. (p.0.now, p.1.now)) result ≡ parsed_request_line line.now }
 {
     let (method, rest) = split_at_first_byte(b' ', line)?;
     let (target, version) = split_at_first_byte(b' ', rest)?;
@@ -58,8 +59,8 @@ fn method_and_target(line: &[u8]) -> Option<(&[u8], &[u8])>
 }
 
 /// The method and the target of the request line with which a head begins, where that line is whole and has no fault.
-pub(crate) fn request_line_of_head(head: &[u8]) -> Option<(&[u8], &[u8])>
-    ensures { option_map (λ p. (p.0.now, p.1.now)) result ≡ request_line_of_head head.now }
+pub(crate) fn method_and_target_of_head(head: &[u8]) -> Option<(&[u8], &[u8])>
+    ensures { option_map (λ p. (p.0.now, p.1.now)) result ≡ method_and_target_of_head head.now }
 {
-    method_and_target(first_line(head)?)
+    parsed_request_line(first_line(head)?)
 }

@@ -8,7 +8,7 @@ ghost use Rattle.hx_framing.specs.Version.{without_trailing_cr};
 use memchr::memchr;
 
 /// What stands before the first LF, and what stands behind it.
-pub(crate) fn first_line_cut(text: &[u8]) -> Option<(&[u8], &[u8])>
+pub(crate) fn split_at_first_lf(text: &[u8]) -> Option<(&[u8], &[u8])>
     ensures cut { option_map (λ p. (p.0.now, p.1.now)) result ≡ split_at_first_byte 10 text.now }
     ensures less { IfSome result (λ p. length p.1.now < length text.now) }
 {

@@ -1,27 +1,29 @@
 -- Queues of streams that were closed, by their stamps.
 --
--- queue_of_streams: one of them       longest_waiting_in_queue: who has stood longest in it
--- QueueHasEntries: so a queue is now, and the other one is as it was
+-- entries_of_stream_queue: one of them       longest_waiting_in_queue: who has stood longest in it
+-- OnlyQueueChangesToEntries: so a queue is now, and the other one is as it was
 -- first_entry_from: the first in a queue from a stamp on
 use Rattle.std.specs.Prelude.{◌≡◌, ℕ, List, Option, not, nat_lt, filter, slice_get}
 use Rattle.std.specs.Option.{option_map}
 use Rattle.std.specs.BTreeMap.{BTreeMap}
-use Rattle.proxy_pacing.specs.declared.stream_queues.StreamQueue.{StreamQueue}
-use Rattle.proxy_pacing.specs.declared.stream_queues.StreamQueue.TheVariants.{Leaving, Lingering}
-use Rattle.proxy_pacing.specs.declared.stream_queues.StreamQueues.{StreamQueues}
+use Rattle.proxy_pacing.specs.declared.stream_queues.ClosedStreamQueue.{ClosedStreamQueue}
+use Rattle.proxy_pacing.specs.declared.stream_queues.ClosedStreamQueue.TheVariants.{Leaving, Lingering}
+use Rattle.proxy_pacing.specs.declared.stream_queues.ClosedStreamQueues.{ClosedStreamQueues}
 
-abbrev pub queue_of_streams : StreamQueue → StreamQueues → BTreeMap ℕ ℕ
-queue_of_streams Leaving queues = queues.leaving
-queue_of_streams Lingering queues = queues.lingering
+abbrev pub entries_of_stream_queue : ClosedStreamQueue → ClosedStreamQueues → BTreeMap ℕ ℕ
+entries_of_stream_queue Leaving queues = queues.leaving
+entries_of_stream_queue Lingering queues = queues.lingering
 
 abbrev pub longest_waiting_in_queue : BTreeMap ℕ ℕ → Option ℕ
 longest_waiting_in_queue line = option_map (λ e. e.1) (slice_get line.entries 0)
 
 -- each stream with its stamp, the least first; and of the other queue, and of the stamp of who comes next, nothing
 -- changed
-abbrev pub QueueHasEntries : StreamQueue → List (ℕ × ℕ) → StreamQueues → StreamQueues → Type 0
-QueueHasEntries Leaving entries old new = (new.leaving.entries ≡ entries) × (new ≡ record old { leaving = new.leaving })
-QueueHasEntries Lingering entries old new =
+abbrev pub OnlyQueueChangesToEntries : ClosedStreamQueue → List (ℕ × ℕ) → ClosedStreamQueues → ClosedStreamQueues
+    → Type 0
+OnlyQueueChangesToEntries Leaving entries old new = (new.leaving.entries ≡ entries)
+    × (new ≡ record old { leaving = new.leaving })
+OnlyQueueChangesToEntries Lingering entries old new =
     (new.lingering.entries ≡ entries) × (new ≡ record old { lingering = new.lingering })
 
 abbrev pub first_entry_from : ℕ → List (ℕ × ℕ) → Option (ℕ × ℕ)

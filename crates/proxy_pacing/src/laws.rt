@@ -1,11 +1,12 @@
 //! What the definitions of moments and of queues give on worked cases, computed from them.
 
 ghost use Rattle.std.specs.Prelude.{◌≡◌, ◌∷◌, [], None, Some, true, false};
-ghost use Rattle.proxy_pacing.specs.MomentOrder.{moment_if_due, with_moment, moments_without_due, without_moment};
-ghost use Rattle.proxy_pacing.specs.Queues.{first_entry_from, queue_of_streams};
+ghost use Rattle.proxy_pacing.specs.MomentOrder.{earliest_moment_if_due, with_moment, moments_without_earliest_due};
+ghost use Rattle.proxy_pacing.specs.MomentOrder.{without_moment};
+ghost use Rattle.proxy_pacing.specs.Queues.{first_entry_from, entries_of_stream_queue};
 ghost use Rattle.proxy_pacing.specs.RestBytes.{has_no_bytes};
-ghost use Rattle.proxy_pacing.specs.declared.stream_queues.StreamQueue.TheVariants.{Leaving, Lingering};
-ghost use Rattle.proxy_pacing.specs.declared.stream_queues.StreamQueues.{StreamQueues};
+ghost use Rattle.proxy_pacing.specs.declared.stream_queues.ClosedStreamQueue.TheVariants.{Leaving, Lingering};
+ghost use Rattle.proxy_pacing.specs.declared.stream_queues.ClosedStreamQueues.{ClosedStreamQueues};
 
 /// The earliest stands first, and of one moment the least holder; each stands once. The earliest is due at its moment
 /// and behind it, and no other is.
@@ -22,19 +23,20 @@ pub fn worked_moments()
         (record { at = 5; id = 0 } ∷ (record { at = 5; id = 1 } ∷ [])) ≡ record { at = 5; id = 0 } ∷ [] }
     ensures another { without_moment (record { at = 5; id = 2 }) (record { at = 5; id = 1 } ∷ [])
         ≡ record { at = 5; id = 1 } ∷ [] }
-    ensures due { moment_if_due 5 (record { at = 5; id = 1 } ∷ []) ≡ Some (record { at = 5; id = 1 }) }
-    ensures not_due { moment_if_due 4 (record { at = 5; id = 1 } ∷ []) ≡ None }
-    ensures left { moments_without_due 6 (record { at = 5; id = 1 } ∷ (record { at = 6; id = 0 } ∷ []))
+    ensures due { earliest_moment_if_due 5 (record { at = 5; id = 1 } ∷ []) ≡ Some (record { at = 5; id = 1 }) }
+    ensures not_due { earliest_moment_if_due 4 (record { at = 5; id = 1 } ∷ []) ≡ None }
+    ensures left { moments_without_earliest_due 6 (record { at = 5; id = 1 } ∷ (record { at = 6; id = 0 } ∷ []))
         ≡ record { at = 6; id = 0 } ∷ [] }
-    ensures all_left { moments_without_due 4 (record { at = 5; id = 1 } ∷ []) ≡ record { at = 5; id = 1 } ∷ [] }
+    ensures all_left { moments_without_earliest_due 4 (record { at = 5; id = 1 } ∷ []) ≡ record { at = 5; id = 1 }
+        ∷ [] }
     ensures nothing { has_no_bytes [] ≡ true }
     ensures something { has_no_bytes (0 ∷ []) ≡ false }
 {}
 
 /// Each queue is its own; the first from a stamp on may have that stamp.
 pub fn worked_queues()
-    ensures leaving { (q : StreamQueues) → queue_of_streams Leaving q ≡ q.leaving }
-    ensures lingering { (q : StreamQueues) → queue_of_streams Lingering q ≡ q.lingering }
+    ensures leaving { (q : ClosedStreamQueues) → entries_of_stream_queue Leaving q ≡ q.leaving }
+    ensures lingering { (q : ClosedStreamQueues) → entries_of_stream_queue Lingering q ≡ q.lingering }
     ensures from { first_entry_from 3 ((2, 9) ∷ (5, 1) ∷ (6, 7) ∷ []) ≡ Some (5, 1) }
     ensures at { first_entry_from 5 ((2, 9) ∷ (5, 1) ∷ (6, 7) ∷ []) ≡ Some (5, 1) }
     ensures of_all { first_entry_from 0 ((2, 9) ∷ (5, 1) ∷ []) ≡ Some (2, 9) }

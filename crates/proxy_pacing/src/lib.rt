@@ -10,5 +10,5 @@ mod stream_queues;
 
 pub use crate::moments::{Moment, Moments};
 pub use crate::pieces::{LEAST_PIECE_BYTES, head_end};
-pub use crate::rest::Rest;
-pub use crate::stream_queues::{StreamQueue, StreamQueues};
+pub use crate::rest::InputNotHandedIn;
+pub use crate::stream_queues::{ClosedStreamQueue, ClosedStreamQueues};

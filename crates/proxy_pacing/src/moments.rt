@@ -1,7 +1,8 @@
 //! Who comes next, by moments: one ordered structure, in which nothing is looked for.
 ghost use Rattle.std.specs.Prelude.{◌≡◌, [], length, slice_get, option_map};
 ghost use Rattle.std.specs.Bool.{OnTrue, OnFalse};
-ghost use Rattle.proxy_pacing.specs.MomentOrder.{with_moment, without_moment, moment_if_due, moments_without_due};
+ghost use Rattle.proxy_pacing.specs.MomentOrder.{with_moment, without_moment, earliest_moment_if_due};
+ghost use Rattle.proxy_pacing.specs.MomentOrder.{moments_without_earliest_due};
 
 use std::alloc::Global;
 use std::collections::BTreeSet;
@@ -69,9 +70,9 @@ impl Moments {
     }
 
     /// Takes out the earliest, where its moment has come. Whose it was.
-    pub fn take_due(&mut self, now: u64) -> Option<u64>
-        ensures due { result ≡ option_map (λ m. m.id) (moment_if_due now self.old) }
-        ensures left { self.new ≡ moments_without_due now self.old }
+    pub fn take_earliest_due(&mut self, now: u64) -> Option<u64>
+        ensures due { result ≡ option_map (λ m. m.id) (earliest_moment_if_due now self.old) }
+        ensures left { self.new ≡ moments_without_earliest_due now self.old }
     {
         let moment = self.items.first().copied()?;
         if moment.at > now {

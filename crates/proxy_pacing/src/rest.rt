@@ -8,13 +8,13 @@ use std::marker::Model;
 
 /// Bytes of a client that wait to be handed in. Contracts see those that are left.
 #[derive(Drop)]
-pub struct Rest {
+pub struct InputNotHandedIn {
     bytes: Vec<u8>,
     /// So many of them were handed in.
     taken: usize,
 }
 
-impl Model for Rest {
+impl Model for InputNotHandedIn {
     ghost use Rattle.std.specs.Prelude.{ℕ, List, ◌≤◌, length, drop};
 
     ghost Value = { List ℕ };
@@ -24,11 +24,11 @@ impl Model for Rest {
     ghost invariant = { λ r. r.taken ≤ length r.bytes.items };
 }
 
-impl Rest {
-    pub fn new(alloc: Global) -> Rest
+impl InputNotHandedIn {
+    pub fn new(alloc: Global) -> InputNotHandedIn
         ensures { result ≡ [] }
     {
-        Rest {
+        InputNotHandedIn {
             bytes: Vec::new(alloc),
             taken: 0,
         }

@@ -4,7 +4,8 @@ ghost use Rattle.std.specs.Bool.{OnTrue, OnFalse};
 ghost use Rattle.std.specs.Ordering.{nat_cmp};
 ghost use Rattle.std.specs.BTreeMap.{btree_map_len, insert_entry, is_at};
 ghost use Rattle.std.specs.Map.{remove_entry};
-ghost use Rattle.proxy_pacing.specs.Queues.{queue_of_streams, longest_waiting_in_queue, QueueHasEntries};
+ghost use Rattle.proxy_pacing.specs.Queues.{entries_of_stream_queue, longest_waiting_in_queue};
+ghost use Rattle.proxy_pacing.specs.Queues.{OnlyQueueChangesToEntries};
 ghost use Rattle.proxy_pacing.specs.Queues.{first_entry_from};
 
 use std::alloc::Global;
@@ -12,7 +13,7 @@ use std::collections::BTreeMap;
 
 /// What a stream that was closed waits for.
 #[derive(Clone, Copy, Debug, PartialEq, Eq)]
-pub enum StreamQueue {
+pub enum ClosedStreamQueue {
     /// Its client, which has something to take before the stream is closed.
     Leaving,
     /// Nothing: it is closed, but for what its client may still send.
@@ -21,39 +22,39 @@ pub enum StreamQueue {
 
 /// The streams that were closed, by stamps that rise.
 #[derive(Drop)]
-pub struct StreamQueues {
+pub struct ClosedStreamQueues {
     leaving: BTreeMap<u64, usize>,
     lingering: BTreeMap<u64, usize>,
     /// The stamp of the next that comes.
     next: u64,
 }
 
-impl StreamQueues {
+impl ClosedStreamQueues {
     /// None.
-    pub fn new(alloc: Global) -> StreamQueues
+    pub fn new(alloc: Global) -> ClosedStreamQueues
         ensures leaving { btree_map_len result.leaving ≡ 0 }
         ensures lingering { btree_map_len result.lingering ≡ 0 }
         ensures next { result.next ≡ 0 }
     {
-        StreamQueues {
+        ClosedStreamQueues {
             leaving: BTreeMap::new(alloc),
             lingering: BTreeMap::new(alloc),
             next: 0,
         }
     }
 
-    fn queue(&self, queue: StreamQueue) -> &BTreeMap<u64, usize>
-        ensures { result.now ≡ queue_of_streams queue self.now }
+    fn queue(&self, queue: ClosedStreamQueue) -> &BTreeMap<u64, usize>
+        ensures { result.now ≡ entries_of_stream_queue queue self.now }
     {
         match queue {
-            StreamQueue::Leaving => &self.leaving,
-            StreamQueue::Lingering => &self.lingering,
+            ClosedStreamQueue::Leaving => &self.leaving,
+            ClosedStreamQueue::Lingering => &self.lingering,
         }
     }
 
     /// How many stand in a queue.
-    pub fn len(&self, queue: StreamQueue) -> usize
-        ensures { result ≡ btree_map_len (queue_of_streams queue self.now) }
+    pub fn len(&self, queue: ClosedStreamQueue) -> usize
+        ensures { result ≡ btree_map_len (entries_of_stream_queue queue self.now) }
     {
         self.queue(queue).len()
     }
@@ -69,34 +70,36 @@ impl StreamQueues {
     }
 
     /// Puts a stream into a queue, by its stamp. Whether there was memory for it; if not, nothing changes.
-    pub fn put(&mut self, queue: StreamQueue, stamp: u64, key: usize) -> bool
+    pub fn put(&mut self, queue: ClosedStreamQueue, stamp: u64, key: usize) -> bool
         ensures put { OnTrue result
-            (QueueHasEntries queue (insert_entry nat_cmp (queue_of_streams queue self.old).entries stamp key)
+            (OnlyQueueChangesToEntries queue
+            (insert_entry nat_cmp (entries_of_stream_queue queue self.old).entries stamp key)
             self.old self.new) }
         ensures unchanged { OnFalse result
-            (QueueHasEntries queue (queue_of_streams queue self.old).entries self.old self.new) }
+            (OnlyQueueChangesToEntries queue (entries_of_stream_queue queue self.old).entries self.old self.new) }
     {
         let put = match queue {
-            StreamQueue::Leaving => self.leaving.insert(stamp, key),
-            StreamQueue::Lingering => self.lingering.insert(stamp, key),
+            ClosedStreamQueue::Leaving => self.leaving.insert(stamp, key),
+            ClosedStreamQueue::Lingering => self.lingering.insert(stamp, key),
         };
         put.is_ok()
     }
 
     /// Takes the stream of a stamp out of a queue, if it stands there.
-    pub fn remove(&mut self, queue: StreamQueue, stamp: u64)
-        ensures { QueueHasEntries queue (remove_entry (is_at (nat_cmp stamp)) (queue_of_streams queue self.old).entries)
+    pub fn remove(&mut self, queue: ClosedStreamQueue, stamp: u64)
+        ensures { OnlyQueueChangesToEntries queue
+            (remove_entry (is_at (nat_cmp stamp)) (entries_of_stream_queue queue self.old).entries)
             self.old self.new }
     {
         let _ = match queue {
-            StreamQueue::Leaving => self.leaving.remove(&stamp),
-            StreamQueue::Lingering => self.lingering.remove(&stamp),
+            ClosedStreamQueue::Leaving => self.leaving.remove(&stamp),
+            ClosedStreamQueue::Lingering => self.lingering.remove(&stamp),
         };
     }
 
     /// Who has stood longest in a queue.
-    pub fn first(&self, queue: StreamQueue) -> Option<usize>
-        ensures { result ≡ longest_waiting_in_queue (queue_of_streams queue self.now) }
+    pub fn first(&self, queue: ClosedStreamQueue) -> Option<usize>
+        ensures { result ≡ longest_waiting_in_queue (entries_of_stream_queue queue self.now) }
     {
         match self.queue(queue).first_key_value() {
             Some((_, key)) => Some(*key),
@@ -105,8 +108,8 @@ impl StreamQueues {
     }
 
     /// The first in a queue from a stamp on.
-    pub fn next_from(&self, queue: StreamQueue, from: u64) -> Option<(u64, usize)>
-        ensures { result ≡ first_entry_from from (queue_of_streams queue self.now).entries }
+    pub fn next_from(&self, queue: ClosedStreamQueue, from: u64) -> Option<(u64, usize)>
+        ensures { result ≡ first_entry_from from (entries_of_stream_queue queue self.now).entries }
     {
         let (stamp, key) = self.queue(queue).range(from..).next()?;
         Some((*stamp, *key))

@@ -2,8 +2,8 @@
 
 use clap::builder::ValueParser;
 use clap::{Arg, ArgAction, ArgMatches, Command, Error};
-use proxy_check::{Question, is_spelled_as_answer, question_of};
-use proxy_files::CommandFault;
+use proxy_check::{RequestToCheck, answer_has_only_field_lines, parse_question};
+use proxy_files::CommandFailure;
 use proxy_server::{Limits, ListenAt};
 use std::alloc::Global;
 use std::net::SocketAddr;
@@ -56,7 +56,7 @@ pub(crate) struct ServeOptions<'a> {
 pub(crate) struct CheckOptions<'a> {
     pub(crate) table: &'a str,
     /// What a request meets.
-    pub(crate) question: Option<Question<'a>>,
+    pub(crate) question: Option<RequestToCheck<'a>>,
     /// A file of questions, with what is expected of each.
     pub(crate) questions: Option<&'a str>,
     /// What an origin answers to what is asked.
@@ -501,31 +501,37 @@ fn service_of<'a>(matches: &ArgMatches<'a>, listen: ListenAt) -> Option<ServeOpt
 }
 
 /// That a text is no address to listen on.
-fn address_fault(alloc: Global, text: &str) -> CommandFault {
+fn address_fault(alloc: Global, text: &str) -> CommandFailure {
     let words = format!(in alloc;
         "error: invalid value '{text}' for '--listen <ADDRESS>': an IPv4 address and a port, as in 127.0.0.1:8080, or a socket that was handed on, as in fd:3"
     );
-    CommandFault::Usage(words.ok())
+    CommandFailure::Usage(words.ok())
 }
 
 /// The service that is asked for.
-fn serve_of<'a>(alloc: Global, matches: &ArgMatches<'a>) -> Result<CommandForm<'a>, CommandFault> {
+fn serve_of<'a>(
+    alloc: Global,
+    matches: &ArgMatches<'a>,
+) -> Result<CommandForm<'a>, CommandFailure> {
     let Some(text) = matches.get_str("listen") else {
-        return Err(CommandFault::Usage(None));
+        return Err(CommandFailure::Usage(None));
     };
     let Some(listen) = listen_at(text) else {
         return Err(address_fault(alloc, text));
     };
     match service_of(matches, listen) {
         Some(service) => Ok(CommandForm::Serve(service)),
-        None => Err(CommandFault::Usage(None)),
+        None => Err(CommandFailure::Usage(None)),
     }
 }
 
 /// What a check asks for.
-fn check_of<'a>(alloc: Global, matches: &ArgMatches<'a>) -> Result<CommandForm<'a>, CommandFault> {
+fn check_of<'a>(
+    alloc: Global,
+    matches: &ArgMatches<'a>,
+) -> Result<CommandForm<'a>, CommandFailure> {
     let Some(path) = matches.get_str("table") else {
-        return Err(CommandFault::Usage(None));
+        return Err(CommandFailure::Usage(None));
     };
     let against = match (matches.get_str("against"), matches.get_str("log")) {
         (Some(table), Some(log)) => Some((table, log)),
@@ -533,7 +539,7 @@ fn check_of<'a>(alloc: Global, matches: &ArgMatches<'a>) -> Result<CommandForm<'
         _ => return Err(against_fault(alloc)),
     };
     let question = match matches.get_str("ask") {
-        Some(text) => match question_of(text) {
+        Some(text) => match parse_question(text) {
             Some(question) => Some(question),
             None => return Err(question_fault(alloc, text)),
         },
@@ -541,7 +547,7 @@ fn check_of<'a>(alloc: Global, matches: &ArgMatches<'a>) -> Result<CommandForm<'
     };
     let answer = matches.get_str("answer");
     if let Some(text) = answer {
-        if !is_spelled_as_answer(text) {
+        if !answer_has_only_field_lines(text) {
             return Err(answer_fault(alloc, text));
         }
     }
@@ -555,32 +561,32 @@ fn check_of<'a>(alloc: Global, matches: &ArgMatches<'a>) -> Result<CommandForm<'
 }
 
 /// What is said of one of the two options that belong together.
-fn against_fault(alloc: Global) -> CommandFault {
+fn against_fault(alloc: Global) -> CommandFailure {
     let words = format!(in alloc; "error: '--against <OLD>' and '--log <FILE>' go together");
-    CommandFault::Usage(words.ok())
+    CommandFailure::Usage(words.ok())
 }
 
 /// What is said of a text that is no answer.
-fn answer_fault(alloc: Global, text: &str) -> CommandFault {
+fn answer_fault(alloc: Global, text: &str) -> CommandFailure {
     let words = format!(in alloc;
         "error: invalid value '{text}' for '--answer <LINES>': lines of a head with | between them, and a status in front if it isn't 200, as in '404 | Cache-Control: max-age=60'"
     );
-    CommandFault::Usage(words.ok())
+    CommandFailure::Usage(words.ok())
 }
 
 /// What is said of a text that is no request.
-fn question_fault(alloc: Global, text: &str) -> CommandFault {
+fn question_fault(alloc: Global, text: &str) -> CommandFailure {
     let words = format!(in alloc;
         "error: invalid value '{text}' for '--ask <REQUEST>': a method, a blank and a URL, as in 'GET http://h.example/a'"
     );
-    CommandFault::Usage(words.ok())
+    CommandFailure::Usage(words.ok())
 }
 
 /// What the words ask for.
 pub(crate) fn command_form_of<'a>(
     alloc: Global,
     matches: &ArgMatches<'a>,
-) -> Result<CommandForm<'a>, CommandFault> {
+) -> Result<CommandForm<'a>, CommandFailure> {
     match matches.subcommand() {
         None => Ok(CommandForm::Replay),
         Some(("replay", inner)) => Ok(CommandForm::ReplayOver(inner.get_str("store"))),

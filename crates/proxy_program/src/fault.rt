@@ -2,7 +2,7 @@
 ghost use Rattle.std.specs.Prelude.{◌≡◌};
 ghost use Rattle.proxy_program.specs.Exits.{exit_status_of_fault};
 
-use proxy_files::{CommandFault, print_words};
+use proxy_files::{CommandFailure, print_words};
 use proxy_server::{RecordFault, ServeFault};
 use std::alloc::AllocError;
 use std::fmt::Formatter;
@@ -12,22 +12,22 @@ use std::{fmt, io};
 #[derive(Drop)]
 pub(crate) enum Fault {
     /// Each form of the command line may have it.
-    Command(CommandFault),
+    Command(CommandFailure),
     /// The address can't be listened on.
     Socket(Option<String>),
     /// A server can't go on.
     Serving(ServeFault),
 }
 
-impl From<CommandFault> for Fault {
-    fn from(fault: CommandFault) -> Fault {
+impl From<CommandFailure> for Fault {
+    fn from(fault: CommandFailure) -> Fault {
         Fault::Command(fault)
     }
 }
 
 impl From<AllocError> for Fault {
     fn from(_error: AllocError) -> Fault {
-        Fault::Command(CommandFault::NoMemory)
+        Fault::Command(CommandFailure::NoMemory)
     }
 }
 

@@ -8,10 +8,12 @@ use crate::fault::Fault;
 use crate::serving::serve;
 use clap::Error;
 use clap::error::ErrorKind;
-use hx_allow::Config;
-use proxy_check::{Trial, ask_all, print_check_of_table, print_comparison_of_tables};
+use hx_allow::Table;
+use proxy_check::{
+    AnswerTrial, ask_all_questions, print_check_of_table, print_comparison_of_tables,
+};
 use proxy_files::{
-    CommandFault, config_of, fault_of, read_questions, read_table, system_call_words,
+    CommandFailure, config_of, fault_of, read_questions, read_table, system_call_words,
 };
 use std::io::{BufReader, IsTerminal};
 use std::net::Net;
@@ -29,7 +31,7 @@ fn seconds_now<R: Clock>(rt: &R) -> u64 {
 }
 
 /// The table in a file.
-fn table_in<R: Files + AllocGlobal>(rt: &R, path: &str) -> Result<Config, CommandFault> {
+fn table_in<R: Files + AllocGlobal>(rt: &R, path: &str) -> Result<Table, CommandFailure> {
     let table = read_table(rt, path)?;
     config_of(rt.alloc(), table.as_slice())
 }
@@ -38,10 +40,10 @@ fn table_in<R: Files + AllocGlobal>(rt: &R, path: &str) -> Result<Config, Comman
 fn check<R: Files + Print + Clock + AllocGlobal>(
     rt: &R,
     checking: &CheckOptions<'_>,
-) -> Result<(), CommandFault> {
+) -> Result<(), CommandFailure> {
     let table = read_table(rt, checking.table)?;
     let config = config_of(rt.alloc(), table.as_slice())?;
-    let trial = Trial {
+    let trial = AnswerTrial {
         table: table.as_slice(),
         now: seconds_now(rt),
         answer: checking.answer.unwrap_or(""),
@@ -56,7 +58,7 @@ fn check<R: Files + Print + Clock + AllocGlobal>(
         print_comparison_of_tables(rt, &config, &table_in(rt, old)?, log)?;
     }
     match checking.questions {
-        Some(path) => ask_all(rt, &config, read_questions(rt, path)?.as_str(), &trial),
+        Some(path) => ask_all_questions(rt, &config, read_questions(rt, path)?.as_str(), &trial),
         None => Ok(()),
     }
 }
@@ -74,18 +76,18 @@ fn print_version<R: Print>(rt: &R, commit: &str) -> io::Result<()> {
 fn explain<R: Files + Print + Eprint + AllocGlobal>(
     rt: &R,
     error: &Error,
-) -> Result<(), CommandFault> {
+) -> Result<(), CommandFailure> {
     match error.kind() {
         ErrorKind::DisplayHelp => match error.print(rt) {
             Ok(()) => Ok(()),
-            Err(_) => Err(CommandFault::Write(None)),
+            Err(_) => Err(CommandFailure::Write(None)),
         },
         ErrorKind::DisplayVersion => match print_version(rt, commit_of(rt)?.as_str()) {
             Ok(()) => Ok(()),
-            Err(_) => Err(CommandFault::Write(None)),
+            Err(_) => Err(CommandFailure::Write(None)),
         },
-        ErrorKind::OutOfMemory => Err(CommandFault::NoMemory),
-        _ => Err(CommandFault::Usage(format!(in rt.alloc(); "{error}").ok())),
+        ErrorKind::OutOfMemory => Err(CommandFailure::NoMemory),
+        _ => Err(CommandFailure::Usage(format!(in rt.alloc(); "{error}").ok())),
     }
 }
 
@@ -110,10 +112,10 @@ struct EndedEarly {
 
 /// Of a fault before it is known what is asked for. Where memory was refused that may be a replay, whose standard
 /// output has its effects alone.
-impl From<CommandFault> for EndedEarly {
-    fn from(fault: CommandFault) -> EndedEarly {
+impl From<CommandFailure> for EndedEarly {
+    fn from(fault: CommandFailure) -> EndedEarly {
         let is_quiet = match &fault {
-            CommandFault::NoMemory => true,
+            CommandFailure::NoMemory => true,
             _ => false,
         };
         EndedEarly {
@@ -170,15 +172,15 @@ fn replayed<R: Files + Input + Print + Eprint + AllocGlobal>(
 fn store_reader<R: Files + AllocGlobal>(
     rt: &R,
     path: &str,
-) -> Result<BufReader<R::File>, CommandFault> {
+) -> Result<BufReader<R::File>, CommandFailure> {
     match fs::open(rt, path) {
         Ok(file) => match BufReader::new(rt.alloc(), file) {
             Ok(reader) => Ok(reader),
-            Err(_) => Err(CommandFault::NoMemory),
+            Err(_) => Err(CommandFailure::NoMemory),
         },
         Err(e) => {
             let words = system_call_words(rt.alloc(), "the store ", path, " can't be opened", &e);
-            Err(fault_of(&e, CommandFault::Read(words)))
+            Err(fault_of(&e, CommandFailure::Read(words)))
         }
     }
 }
@@ -220,10 +222,10 @@ where
 }
 
 /// The words of the command line.
-fn command_line_words<R: Env + AllocGlobal>(rt: &R) -> Result<Vec<String>, CommandFault> {
+fn command_line_words<R: Env + AllocGlobal>(rt: &R) -> Result<Vec<String>, CommandFailure> {
     match env::args(rt) {
         Ok(args) => Ok(args.collect(rt.alloc())?),
-        Err(e) => Err(fault_of(&e, CommandFault::Usage(None))),
+        Err(e) => Err(fault_of(&e, CommandFailure::Usage(None))),
     }
 }
 

@@ -10,13 +10,13 @@ use crate::figures::{Figures, FixedFacts};
 use crate::heap::keep_freed_memory;
 use crate::process::process_start;
 use crate::warnings::Warnings;
-use crate::watch::{EndWatch, ServerState};
-use hx_allow::{Config, MOST_LINES};
+use crate::watch::{ServerRunState, ShutdownWatch};
+use hx_allow::{MOST_LINES, Table};
 use hx_store::{IndexedShelf, Shelf};
 use proxy_files::{
-    CommandFault, Journal, KeptStore, LogTarget, StatsFile, config_of,
+    CommandFailure, Journal, KeptStore, LogTarget, StatsFile, config_of,
     connections_within_descriptors, descriptors_allowed, descriptors_wanted, fault_of, megabytes,
-    memory_allowed, most_held_bytes, most_store_bytes, open_log_file, read_table,
+    memory_allowed, most_bytes_held_beside_store, most_store_bytes, open_log_file, read_table,
     system_call_words, warn_of_other_writer,
 };
 use proxy_kept_store::a_server_may_begin_empty;
@@ -70,14 +70,14 @@ fn record_of<R: Files + AllocGlobal>(
 }
 
 /// Why a record can't be begun.
-fn record_fault<R: AllocGlobal>(rt: &R, name: &str, error: &io::Error) -> CommandFault {
+fn record_fault<R: AllocGlobal>(rt: &R, name: &str, error: &io::Error) -> CommandFailure {
     let hint = if error.kind() == ErrorKind::AlreadyExists {
         " is never written over: take another name, or %s in it for the moment of the start"
     } else {
         " can't be begun"
     };
     let words = system_call_words(rt.alloc(), "the record ", name, hint, error);
-    fault_of(error, CommandFault::Write(words))
+    fault_of(error, CommandFailure::Write(words))
 }
 
 /// The bounds, cut to the descriptors that are allowed where the system tells.
@@ -136,7 +136,7 @@ fn comes_back(origin: SocketAddrV4, address: SocketAddr) -> bool {
 }
 
 /// Tells of each line whose requests come back to this server.
-fn warn_of_loops<R: Eprint>(rt: &R, config: &Config, address: SocketAddr) {
+fn warn_of_loops<R: Eprint>(rt: &R, config: &Table, address: SocketAddr) {
     for line in 1..=MOST_LINES {
         if config
             .origin_address(line)
@@ -158,7 +158,7 @@ fn warn_of_loops<R: Eprint>(rt: &R, config: &Config, address: SocketAddr) {
 fn serve_turns<'a, R, S: Shelf + Drop, P: Write + Drop>(
     rt: &R,
     turns: u64,
-    watch: EndWatch<'_>,
+    watch: ShutdownWatch<'_>,
     server: &mut Server<'a, S, R, R::File>,
     journal: &mut Option<Journal<R::File, P>>,
     figures: &mut Option<Figures<'_>>,
@@ -171,21 +171,21 @@ where
     let mut warnings = Warnings::new();
     for _ in 0..turns {
         // What a turn that ended early left undone is done in the next one.
-        let turned = server.serve_turn(rt)?;
+        let turned = server.wait_and_serve_turn(rt)?;
         warnings.warn_of_turn(rt, server, &turned);
         let lost = write_log(server, journal);
         if lost > 0 && !log_reported {
             log_reported = true;
             let _ = eprintln!(rt; "log fault");
-            let _ = watch.explain_log(rt, journal);
+            let _ = watch.explain_lost_log_lines(rt, journal);
         }
         if let Some(figures) = figures {
             figures.follow(rt, server, lost);
         }
         warnings.look(rt, server);
         match watch.look(rt, server, journal) {
-            ServerState::On => {}
-            ServerState::Draining => {
+            ServerRunState::On => {}
+            ServerRunState::Draining => {
                 let _ = eprintln!(rt; "draining");
                 if let Some(path) = watch.left_drain_file() {
                     let _ = eprintln!(rt;
@@ -193,7 +193,7 @@ where
                     );
                 }
             }
-            ServerState::Over => return Ok(()),
+            ServerRunState::Over => return Ok(()),
         }
     }
     Ok(())
@@ -221,7 +221,7 @@ fn journal_of<R: Files + AllocGlobal, P: Write + Drop>(
     rt: &R,
     path: Option<&str>,
     print: P,
-) -> Result<Option<Journal<R::File, P>>, CommandFault> {
+) -> Result<Option<Journal<R::File, P>>, CommandFailure> {
     match path {
         None => Ok(None),
         Some("-") => Ok(Some(Journal::new(LogTarget::Print(print)))),
@@ -229,7 +229,7 @@ fn journal_of<R: Files + AllocGlobal, P: Write + Drop>(
             Ok(file) => Ok(Some(Journal::new(LogTarget::File(file)))),
             Err(e) => {
                 let words = system_call_words(rt.alloc(), "the log ", path, " can't be opened", &e);
-                Err(fault_of(&e, CommandFault::Write(words)))
+                Err(fault_of(&e, CommandFailure::Write(words)))
             }
         },
     }
@@ -239,7 +239,7 @@ fn journal_of<R: Files + AllocGlobal, P: Write + Drop>(
 fn figures_of<'a, 'n, R: Net + Clock + Files + AllocGlobal>(
     rt: &R,
     path: Option<&'a str>,
-    config: &Config,
+    config: &Table,
     store: &'a StoreCounts,
     sockets: &mut LiveSockets<'n, R>,
 ) -> Result<Option<Figures<'a>>, Fault> {
@@ -249,7 +249,7 @@ fn figures_of<'a, 'n, R: Net + Clock + Files + AllocGlobal>(
     let Ok(now) = rt.since_1970() else {
         return Err(Fault::from(ServeFault::Clock));
     };
-    sockets.begin_counts(config)?;
+    sockets.start_counting_replies(config)?;
     let whole = now.as_secs().saturating_mul(1000);
     let began = whole.saturating_add(u64::from(now.subsec_millis()));
     let file = StatsFile::new(rt, path)?;
@@ -265,7 +265,7 @@ fn figures_of<'a, 'n, R: Net + Clock + Files + AllocGlobal>(
 }
 
 /// A number that nobody can foresee, for what tells variants apart before they are looked at.
-fn seed_of<R: RandomSource + AllocGlobal>(rt: &R) -> Result<u64, CommandFault>
+fn seed_of<R: RandomSource + AllocGlobal>(rt: &R) -> Result<u64, CommandFailure>
     ensures { IfOk result SeedIsHashOfRandomKeys }
 {
     match RandomState::new(rt) {
@@ -278,7 +278,7 @@ fn seed_of<R: RandomSource + AllocGlobal>(rt: &R) -> Result<u64, CommandFault>
                 "the system gives no number by chance",
                 &e,
             );
-            Err(CommandFault::Read(words))
+            Err(CommandFailure::Read(words))
         }
     }
 }
@@ -294,7 +294,7 @@ fn listen_fault<R: AllocGlobal>(rt: &R, at: ListenAt, error: &io::Error) -> Faul
         ),
     };
     if error.kind() == ErrorKind::OutOfMemory {
-        return Fault::Command(CommandFault::NoMemory);
+        return Fault::Command(CommandFailure::NoMemory);
     }
     Fault::Socket(words.ok())
 }
@@ -344,14 +344,14 @@ impl<'a, F: Write + Drop, P: Write + Drop> Drop for Reports<'a, F, P> {
 fn reports_of<'a, 'n, R: Net + Clock + Files + AllocGlobal, P: Write + Drop>(
     rt: &R,
     service: &ServeOptions<'a>,
-    config: &Config,
+    config: &Table,
     store: &'a StoreCounts,
     sockets: &mut LiveSockets<'n, R>,
     print: P,
 ) -> Result<Reports<'a, R::File, P>, Fault> {
     let journal = journal_of(rt, service.log, print)?;
     if journal.is_some() {
-        sockets.begin_log(config)?;
+        sockets.start_keeping_log_lines(config)?;
     }
     let figures = figures_of(rt, service.stats, config, store, sockets)?;
     Ok(Reports { journal, figures })
@@ -368,7 +368,7 @@ where
     R: Net + Clock + Files + Print + Eprint + AllocGlobal,
 {
     let turns = service.turns.map_or(u64::MAX, u64::from);
-    let watch = EndWatch::new(service.drain, service.drain_timeout, service.log);
+    let watch = ShutdownWatch::new(service.drain, service.drain_timeout, service.log);
     let served = serve_turns(
         rt,
         turns,
@@ -405,9 +405,9 @@ fn kept_store_of<'a, R: AllocGlobal>(
 fn first_serial<R: Files + Eprint + AllocGlobal, S: Shelf>(
     rt: &R,
     kept: &Option<KeptStore<'_>>,
-    config: &Config,
+    config: &Table,
     shelf: &mut S,
-) -> Result<u64, CommandFault>
+) -> Result<u64, CommandFailure>
     requires empty { S.entries shelf.old ≡ [] }
     requires capacity { S.limit shelf.old ≡ config.now.capacity }
     ensures may { IfOk result (λ first. ResponsesMayBeHeldAtStart config.now (S.entries shelf.new) first) }
@@ -437,7 +437,7 @@ fn keep_store<'a, R: Net + Files + Eprint + AllocGlobal, S: Shelf + Drop>(
         let _ = eprintln!(rt; "warning: the store isn't kept: {open} requests were still open");
         return Ok(());
     }
-    let (mut shelf, next) = server.into_shelf_and_serial();
+    let (mut shelf, next) = server.into_shelf_and_next_serial();
     if let Some(next) = next {
         kept.write(rt, &mut shelf, next)?;
     }
@@ -449,7 +449,7 @@ fn keep_store<'a, R: Net + Files + Eprint + AllocGlobal, S: Shelf + Drop>(
 fn server_of<'n, R: Net + Files + Eprint + AllocGlobal, S: Shelf + Drop>(
     rt: &'n R,
     kept: &Option<KeptStore<'_>>,
-    config: Config,
+    config: Table,
     shelf: S,
     sockets: LiveSockets<'n, R>,
     record: Option<Recorder<R::File>>,
@@ -505,7 +505,7 @@ where
 fn serve_table<'n, R: Net + Clock + Files + Print + Eprint + AllocGlobal + RandomSource>(
     rt: &'n R,
     service: &ServeOptions<'_>,
-    config: Config,
+    config: Table,
     sockets: LiveSockets<'n, R>,
     record: Option<Recorder<R::File>>,
     start: &Start<'_>,
@@ -541,7 +541,7 @@ pub(crate) fn serve<R: Net + Clock + Files + Print + Eprint + AllocGlobal + Rand
     let start = Start {
         address: sockets.address(),
         stored: most_store_bytes(&config),
-        held: most_held_bytes(limits.content, limits.connections),
+        held: most_bytes_held_beside_store(limits.content, limits.connections),
         allows,
         record: name,
     };

@@ -37,7 +37,7 @@ impl RareWarning {
 #[derive(Clone, Copy)]
 pub(crate) struct Warnings {
     full: RareWarning,
-    beyond_bound: RareWarning,
+    refused_beyond_bound: RareWarning,
     silent: RareWarning,
     no_descriptor: RareWarning,
     no_link: RareWarning,
@@ -57,7 +57,7 @@ impl Warnings {
     pub(crate) fn new() -> Warnings {
         Warnings {
             full: RareWarning::new(),
-            beyond_bound: RareWarning::new(),
+            refused_beyond_bound: RareWarning::new(),
             silent: RareWarning::new(),
             no_descriptor: RareWarning::new(),
             no_link: RareWarning::new(),
@@ -141,12 +141,14 @@ impl Warnings {
 
     /// Tells that connects to origins were refused at once since the last look.
     fn look_at_origins<R: Eprint>(&mut self, rt: &R, troubles: &TroubleCounts, second: u64) {
-        if troubles.beyond_bound > self.refused_links && self.beyond_bound.is_due(second) {
+        if troubles.refused_beyond_bound > self.refused_links
+            && self.refused_beyond_bound.is_due(second)
+        {
             let _ = eprintln!(rt;
                 "warning: as many connections to an origin are open as may be: further requests for it are refused"
             );
         }
-        self.refused_links = troubles.beyond_bound;
+        self.refused_links = troubles.refused_beyond_bound;
         if troubles.silent > self.silences && self.silent.is_due(second) {
             let _ = eprintln!(rt;
                 "warning: an origin doesn't answer: it is asked by one request at a time until it does, others for it are refused"

@@ -10,7 +10,7 @@ use std::{fs, io};
 
 /// How a server is watched, and since when it is to end.
 #[derive(Clone, Copy)]
-pub(crate) struct EndWatch<'a> {
+pub(crate) struct ShutdownWatch<'a> {
     drain: Option<&'a str>,
     drain_timeout: u64,
     log: Option<&'a str>,
@@ -24,7 +24,7 @@ pub(crate) struct EndWatch<'a> {
 
 /// Whether a server goes on.
 #[derive(Clone, Copy)]
-pub(crate) enum ServerState {
+pub(crate) enum ServerRunState {
     On,
     /// It begins to end.
     Draining,
@@ -38,13 +38,13 @@ fn tell_of_other_lines<R: Eprint>(rt: &R, path: &str) {
     );
 }
 
-impl<'a> EndWatch<'a> {
+impl<'a> ShutdownWatch<'a> {
     pub(crate) fn new(
         drain: Option<&'a str>,
         drain_timeout: u64,
         log: Option<&'a str>,
-    ) -> EndWatch<'a> {
-        EndWatch {
+    ) -> ShutdownWatch<'a> {
+        ShutdownWatch {
             drain,
             drain_timeout,
             log,
@@ -71,7 +71,7 @@ impl<'a> EndWatch<'a> {
     }
 
     /// Says on standard output why lines of the log are lost, unless the log itself is there.
-    pub(crate) fn explain_log<R: Print, F: Write + Drop, P: Write + Drop>(
+    pub(crate) fn explain_lost_log_lines<R: Print, F: Write + Drop, P: Write + Drop>(
         &self,
         rt: &R,
         journal: &Option<Journal<F, P>>,
@@ -94,15 +94,15 @@ impl<'a> EndWatch<'a> {
         rt: &R,
         server: &mut Server<'s, S, R, R::File>,
         journal: &mut Option<Journal<R::File, P>>,
-    ) -> ServerState {
+    ) -> ServerRunState {
         let now = server.second();
         if let Some(ends) = self.ends {
             if now >= ends || server.is_drained() {
-                return ServerState::Over;
+                return ServerRunState::Over;
             }
         }
         if self.looked == Some(now) {
-            return ServerState::On;
+            return ServerRunState::On;
         }
         let is_first = self.looked.is_none();
         self.looked = Some(now);
@@ -116,8 +116,8 @@ impl<'a> EndWatch<'a> {
             self.is_early = is_first;
             self.ends = Some(now.saturating_add(self.drain_timeout));
             server.drain();
-            return ServerState::Draining;
+            return ServerRunState::Draining;
         }
-        ServerState::On
+        ServerRunState::On
     }
 }

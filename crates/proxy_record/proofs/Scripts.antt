@@ -5,17 +5,17 @@ use Rattle.std.proofs.KnownBytes.{Appends-nil, Appends-trans}
 use Rattle.std.proofs.lemmas.Bool.{cases_Bool, false≢true, true≢false}
 use Rattle.std.specs.Io.KnownBytes.{Appends}
 use Rattle.std.specs.List.{flat_map, AllByRecursion}
-use Rattle.proxy_script.specs.Script.{ItemModel as Item, Table, Moment, Happens, item_spelling, ItemHasSpelling, ItemIsAllowedAtPosition, IsScript}
+use Rattle.proxy_script.specs.Script.{ItemModel as Item, Table, Moment, Happens, item_spelling, ItemCanBeSpelled, ItemIsAllowedAtPosition, IsScript}
 use Rattle.proxy_script.specs.Happenings.{HappeningModel as Happening}
 use Rattle.proxy_script.specs.Happenings as happening
 use Rattle.proxy_script.specs.declared.limits.TheConstants.{MOST_SCRIPT_BYTES}
-use Rattle.proxy_record.specs.Records.{RecordSoFar, TextIsAdded, has_room, record_text_if_room, empty_record, items_of_happening, text_of_items, RecordBegins, ended_record, RecordMayEnd, HappeningIsRecorded, RecordedHappening, HappeningsAreRecordedOrRecordEnds, items_of_recorded, script_of_recorded, RecordedHappeningHasSpelling, IsRecordOfHappenings}
+use Rattle.proxy_record.specs.Records.{RecordSoFar, TextIsAddedOrRecordEnds, has_room, record_text_if_room, empty_record, items_of_happening, text_of_items, RecordBeginsWithTable, ended_record, RecordMayEnd, HappeningIsRecorded, RecordedHappening, HappeningsAreRecordedOrRecordEnds, items_of_recorded, script_of_recorded, RecordedHappeningHasSpelling, IsRecordOfHappenings}
 
 -- what a text that had room, or had none, made of a record
 abbrev HadRoom : Bool → RecordSoFar → List ℕ → ℕ → RecordSoFar → Type 0
 HadRoom room r text moment new = Appends r.held new.held (if room then text else []) × (new.len ≡ r.len + length (if room then text else [])) × (new.moment ≡ (if room then moment else r.moment)) × (new.over ≡ not room)
 
-had_room : (room : Bool) (r : RecordSoFar) (text : List ℕ) (moment : ℕ) (new : RecordSoFar) → has_room r text ≡ room → TextIsAdded r text moment new → HadRoom room r text moment new
+had_room : (room : Bool) (r : RecordSoFar) (text : List ℕ) (moment : ℕ) (new : RecordSoFar) → has_room r text ≡ room → TextIsAddedOrRecordEnds r text moment new → HadRoom room r text moment new
 had_room room r text moment new is adds = subst (λ (b : Bool). HadRoom b r text moment new) is (adds.written, adds.len, adds.moment_is, adds.ends)
 
 none_where_over : (r : RecordSoFar) (text : List ℕ) → r.over ≡ true → has_room r text ≡ false
@@ -109,7 +109,7 @@ grew r (one ∷ more) new going (begun, inl same, mid, happened, noted) = elim (
 ]
 
 -- a record that has begun, and what was told since
-pub is_record_of : (before : Option (List ℕ)) (table : List ℕ) (all_noted : List RecordedHappening) (begun new : RecordSoFar) → RecordBegins before table begun → begun.over ≡ false → HappeningsAreRecordedOrRecordEnds begun all_noted new → IsRecordOfHappenings before table all_noted new
+pub is_record_of : (before : Option (List ℕ)) (table : List ℕ) (all_noted : List RecordedHappening) (begun new : RecordSoFar) → RecordBeginsWithTable before table begun → begun.over ≡ false → HappeningsAreRecordedOrRecordEnds begun all_noted new → IsRecordOfHappenings before table all_noted new
 is_record_of before table all_noted begun new begins going noted = elim (cases_Bool (has_room (empty_record before) (item_spelling (Table table)))) [
   | inl room ↦
       let first = had_room true (empty_record before) (item_spelling (Table table)) 0 begun room begins in
@@ -134,7 +134,7 @@ all_both : (P : Item → Type 0) (xs ys : List Item) → AllByRecursion P xs →
 all_both P [] ys one two = two
 all_both P (x ∷ xs) ys one two = (one.0, all_both P xs ys one.1 two)
 
-fits_one : (same : Bool) (one : RecordedHappening) → RecordedHappeningHasSpelling one → AllByRecursion ItemHasSpelling (if same then Happens one.happening ∷ [] else Moment one.moment ∷ Happens one.happening ∷ [])
+fits_one : (same : Bool) (one : RecordedHappening) → RecordedHappeningHasSpelling one → AllByRecursion ItemCanBeSpelled (if same then Happens one.happening ∷ [] else Moment one.moment ∷ Happens one.happening ∷ [])
 fits_one true one fits = (fits.1, tt)
 fits_one false one fits = (fits.0, (fits.1, tt))
 
@@ -153,13 +153,13 @@ placed_one : (same : Bool) (one : RecordedHappening) → AllByRecursion (ItemIsA
 placed_one true one = (placed_happening one.happening, tt)
 placed_one false one = (refl, (placed_happening one.happening, tt))
 
-fit : (last : ℕ) (all_noted : List RecordedHappening) → AllByRecursion RecordedHappeningHasSpelling all_noted → AllByRecursion ItemHasSpelling (items_of_recorded last all_noted)
+fit : (last : ℕ) (all_noted : List RecordedHappening) → AllByRecursion RecordedHappeningHasSpelling all_noted → AllByRecursion ItemCanBeSpelled (items_of_recorded last all_noted)
 fit last [] all = tt
-fit last (one ∷ more) all = all_both ItemHasSpelling (items_of_happening last one.moment one.happening) (items_of_recorded one.moment more) (fits_one (one.moment == last) one all.0) (fit one.moment more all.1)
+fit last (one ∷ more) all = all_both ItemCanBeSpelled (items_of_happening last one.moment one.happening) (items_of_recorded one.moment more) (fits_one (one.moment == last) one all.0) (fit one.moment more all.1)
 
 placed : (last : ℕ) (all_noted : List RecordedHappening) → AllByRecursion (ItemIsAllowedAtPosition false) (items_of_recorded last all_noted)
 placed last [] = tt
 placed last (one ∷ more) = all_both (ItemIsAllowedAtPosition false) (items_of_happening last one.moment one.happening) (items_of_recorded one.moment more) (placed_one (one.moment == last) one) (placed one.moment more)
 
-pub is_spelled : (table : List ℕ) (all_noted : List RecordedHappening) → ItemHasSpelling (Table table) → AllByRecursion RecordedHappeningHasSpelling all_noted → IsScript (script_of_recorded table all_noted) table (items_of_recorded 0 all_noted)
+pub is_spelled : (table : List ℕ) (all_noted : List RecordedHappening) → ItemCanBeSpelled (Table table) → AllByRecursion RecordedHappeningHasSpelling all_noted → IsScript (script_of_recorded table all_noted) table (items_of_recorded 0 all_noted)
 is_spelled table all_noted fits all = record { script = refl; table_fits = fits; items_fit = fit 0 all_noted all; one_table = placed 0 all_noted }

@@ -11,10 +11,10 @@ use Rattle.proxy_engine.specs.declared.work.End.{End}
 use Rattle.proxy_engine.specs.declared.work.End.TheVariants as ends
 use Rattle.proxy_turn.specs.Calls as call
 use Rattle.proxy_turn.specs.Calls.{Call, AcceptOutcome, NoneCame, Failed, Came}
-use Rattle.proxy_turn.specs.Turn.{EndRead, ActWithEffectFates, EffectFate, Carried, Passed, Lost, EffectFailureCountsAs, EffectsAreCarriedOut, ActsAreCarriedOut, happening_of_read, happening_of_loss, end_of_effect, calls_of_reads, calls_of_effect, calls_of_effects, calls_of_rounds}
-use Rattle.proxy_turn.specs.Over.{happening_of_accept_outcome, calls_of_accepts, TurnOverEndsIsDoneInOrder, calls_of_turn_over_ends}
-use Rattle.proxy_turn.specs.OverSteps.{steps_of_accepts, steps_of_turn_over_ends}
-use Rattle.proxy_turn.specs.declared.bounds.TurnBounds.{TurnBounds}
+use Rattle.proxy_turn.specs.Turn.{EndRead, ActWithEffectFates, EffectFate, Carried, Passed, Lost, FailedEffectHasFailKind, EffectsAreHandledWithFates, ActsAreDoneWithEffectFates, happening_of_read, happening_of_loss, end_of_effect, calls_of_reads, calls_of_effect, calls_of_effects, calls_of_rounds}
+use Rattle.proxy_turn.specs.Over.{happening_of_accept_outcome, calls_of_accepts, TurnOverGivenEndsIsDoneInOrder, calls_of_turn_over_given_ends}
+use Rattle.proxy_turn.specs.OverSteps.{steps_of_accepts, steps_of_turn_over_given_ends}
+use Rattle.proxy_turn.specs.declared.bounds.TurnAcceptBounds.{TurnAcceptBounds}
 use Rattle.proxy_turn.specs.TurnSteps.{step_of_happening_if_any, steps_of_reads, steps_of_lost_ends, steps_of_rounds}
 use Rattle.std.proofs.KnownBytes.{Appends-nil}
 use Rattle.proxy_record.specs.Recorded.{happening_of_call, HappeningIfAnyIsRecorded, CallIsRecorded, CallsAreRecorded, record_ended_if_any}
@@ -62,14 +62,14 @@ said_passed (effects.Drop l) more = refl
 abbrev IsSaid : Effect → List Call → FailKind → Type 0
 IsSaid e more kind = happenings_of_calls (calls_of_effect e (Lost kind) ++ more) ≡ happening_as_list (happening_of_loss (end_of_effect e) kind) ++ happenings_of_calls more
 
-said_lost : (e : Effect) (kind : FailKind) (more : List Call) → EffectFailureCountsAs e kind → IsSaid e more kind
+said_lost : (e : Effect) (kind : FailKind) (more : List Call) → FailedEffectHasFailKind e kind → IsSaid e more kind
 said_lost (effects.Client n bytes replied) kind more is = subst (IsSaid (effects.Client n bytes replied) more) (sym is) refl
 said_lost (effects.Close n) kind more is = subst (IsSaid (effects.Close n) more) (sym is) refl
 said_lost (effects.Drop l) kind more is = subst (IsSaid (effects.Drop l) more) (sym is) refl
 said_lost (effects.Forward l address bytes) kind more (inl is) = subst (IsSaid (effects.Forward l address bytes) more) (sym is) refl
 said_lost (effects.Forward l address bytes) kind more (inr is) = subst (IsSaid (effects.Forward l address bytes) more) (sym is) refl
 
-took_losses : (s : EngineModel) (gone : List End) (es : List Effect) (fs : List EffectFate) (t : EngineModel) (then : List End) (past : List ExecutionStep) → EffectsAreCarriedOut s gone es fs t then → happenings_of_steps (steps_of_lost_ends es fs past) ≡ happenings_of_steps past ++ happenings_of_calls (calls_of_effects es fs)
+took_losses : (s : EngineModel) (gone : List End) (es : List Effect) (fs : List EffectFate) (t : EngineModel) (then : List End) (past : List ExecutionStep) → EffectsAreHandledWithFates s gone es fs t then → happenings_of_steps (steps_of_lost_ends es fs past) ≡ happenings_of_steps past ++ happenings_of_calls (calls_of_effects es fs)
 took_losses s gone [] [] t then past out = sym (append-nil (happenings_of_steps past))
 took_losses s gone [] (f ∷ fs) t then past out = absurd out
 took_losses s gone (e ∷ es) [] t then past out = absurd out
@@ -81,7 +81,7 @@ took_losses s gone (e ∷ es) (Lost kind ∷ fs) t then past out =
     took_losses out.0 out.1 es fs t then (step_of_happening_if_any (happening_of_loss (end_of_effect e) kind) past) out.3 ∙ (took_more (happening_of_loss (end_of_effect e) kind) past (happenings_of_calls (calls_of_effects es fs))
     ∙ ap (λ (hs : List Happening). happenings_of_steps past ++ hs) (sym (said_lost e kind (calls_of_effects es fs) out.2.1)))
 
-took_rounds : (now : ℕ) (s : EngineModel) (gone : List End) (rs : List ActWithEffectFates) (t : EngineModel) (then : List End) (past : List ExecutionStep) → ActsAreCarriedOut now s gone rs t then → happenings_of_steps (steps_of_rounds now rs past) ≡ happenings_of_steps past ++ happenings_of_calls (calls_of_rounds rs)
+took_rounds : (now : ℕ) (s : EngineModel) (gone : List End) (rs : List ActWithEffectFates) (t : EngineModel) (then : List End) (past : List ExecutionStep) → ActsAreDoneWithEffectFates now s gone rs t then → happenings_of_steps (steps_of_rounds now rs past) ≡ happenings_of_steps past ++ happenings_of_calls (calls_of_rounds rs)
 took_rounds now s gone [] t then past works = sym (append-nil (happenings_of_steps past))
 took_rounds now s gone (r ∷ rs) t then past works =
     took_rounds now works.1 works.2 rs t then (steps_of_lost_ends r.emitted r.fates (Worked now r.act r.emitted ∷ past)) works.6
@@ -89,8 +89,8 @@ took_rounds now s gone (r ∷ rs) t then past works =
     ∙ (append_assoc (happenings_of_steps past) (happenings_of_calls (calls_of_effects r.emitted r.fates)) (happenings_of_calls (calls_of_rounds rs))
     ∙ ap (λ (hs : List Happening). happenings_of_steps past ++ hs) (sym (said_both (calls_of_effects r.emitted r.fates) (calls_of_rounds rs)))))
 
-took_turn : (now : ℕ) (bounds : TurnBounds) (s : EngineModel) (given : List End) (accepts : List AcceptOutcome) (reads : List EndRead) (rest : List End) (rounds : List ActWithEffectFates) (t : EngineModel) → TurnOverEndsIsDoneInOrder now bounds s given accepts reads rest rounds t
-    → happenings_of_steps (steps_of_turn_over_ends now s accepts reads rounds []) ≡ happenings_of_calls (calls_of_turn_over_ends s accepts reads rounds)
+took_turn : (now : ℕ) (bounds : TurnAcceptBounds) (s : EngineModel) (given : List End) (accepts : List AcceptOutcome) (reads : List EndRead) (rest : List End) (rounds : List ActWithEffectFates) (t : EngineModel) → TurnOverGivenEndsIsDoneInOrder now bounds s given accepts reads rest rounds t
+    → happenings_of_steps (steps_of_turn_over_given_ends now s accepts reads rounds []) ≡ happenings_of_calls (calls_of_turn_over_given_ends s accepts reads rounds)
 took_turn now bounds s given accepts reads rest rounds t turn =
     let first = steps_of_accepts (length s.connections + 1) accepts [] in
     let asked = calls_of_accepts (length s.connections + 1) accepts in
@@ -140,4 +140,4 @@ notes_in_order now (call.Shut end done ∷ more) r new noted = told_behind now m
 
 pub turns_are_recorded : TurnsAreRecorded
 turns_are_recorded now bounds s given accepts reads rest rounds t r new turn noted =
-    subst (λ (hs : List Happening). IsNotedAs now hs r new) (sym (took_turn now bounds s given accepts reads rest rounds t turn)) (notes_in_order now (calls_of_turn_over_ends s accepts reads rounds) r new noted)
+    subst (λ (hs : List Happening). IsNotedAs now hs r new) (sym (took_turn now bounds s given accepts reads rest rounds t turn)) (notes_in_order now (calls_of_turn_over_given_ends s accepts reads rounds) r new noted)

@@ -214,11 +214,12 @@ call_was_recorded now (call.Connect link address done) old new noted is =
 call_was_recorded now (call.Shut end done) old new noted is =
     let still = still_done done old new noted is in (ap not still.0, still.1)
 
-recording_behind : (now : ℕ) (made : List Call) (old new : Option RecordSoFar) → CallsAreRecorded now made old new
+was_recording_before_calls : (now : ℕ) (made : List Call) (old new : Option RecordSoFar)
+    → CallsAreRecorded now made old new
     → is_recording new ≡ true → is_recording old ≡ true
-recording_behind now [] old new noted is = subst (λ (r : Option RecordSoFar). is_recording r ≡ true) noted is
-recording_behind now (one ∷ more) old new noted is =
-    (call_was_recorded now one old noted.0 noted.1 (recording_behind now more noted.0 new noted.2 is)).1
+was_recording_before_calls now [] old new noted is = subst (λ (r : Option RecordSoFar). is_recording r ≡ true) noted is
+was_recording_before_calls now (one ∷ more) old new noted is =
+    (call_was_recorded now one old noted.0 noted.1 (was_recording_before_calls now more noted.0 new noted.2 is)).1
 
 -- with no call
 pub turn_with_no_call_is_recorded : (now : ℕ) (old : Option RecordSoFar) (taken : Bool)
@@ -252,8 +253,9 @@ recorded_turns_concatenate now then last old mid new taken some later a b one tw
     record {
       stays = two.stays ∙ one.stays;
       notes = notes_on now a b old mid new one.notes same;
-      takes = λ is. takes_on taken some later a b (one.takes (recording_behind now b mid new same is)) (two.takes is);
-      whole = λ is. none_failed a b (one.whole (recording_behind now b mid new same is)) (two.whole is);
+      takes = λ is. takes_on taken some later a b (one.takes (was_recording_before_calls now b mid new same is))
+          (two.takes is);
+      whole = λ is. none_failed a b (one.whole (was_recording_before_calls now b mid new same is)) (two.whole is);
     }
 
 -- where recording hasn't failed later, it hadn't before

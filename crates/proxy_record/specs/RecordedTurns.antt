@@ -11,9 +11,9 @@ use Rattle.proxy_engine.specs.declared.work.End.{End}
 use Rattle.proxy_script.specs.Happenings.{HappeningModel as Happening}
 use Rattle.proxy_turn.specs.Calls.{Call, AcceptOutcome}
 use Rattle.proxy_turn.specs.Turn.{EndRead, ActWithEffectFates}
-use Rattle.proxy_turn.specs.Over.{TurnOverEndsIsDoneInOrder, calls_of_turn_over_ends}
-use Rattle.proxy_turn.specs.OverSteps.{steps_of_turn_over_ends}
-use Rattle.proxy_turn.specs.declared.bounds.TurnBounds.{TurnBounds}
+use Rattle.proxy_turn.specs.Over.{TurnOverGivenEndsIsDoneInOrder, calls_of_turn_over_given_ends}
+use Rattle.proxy_turn.specs.OverSteps.{steps_of_turn_over_given_ends}
+use Rattle.proxy_turn.specs.declared.bounds.TurnAcceptBounds.{TurnAcceptBounds}
 use Rattle.proxy_record.specs.Recorded.{happening_of_call, CallsAreRecorded}
 use Rattle.proxy_record.specs.Records.{RecordSoFar, RecordedHappening, HappeningsAreRecordedOrRecordEnds}
 
@@ -39,12 +39,12 @@ recorded_at_moment now (h ∷ hs) = record { moment = now; happening = h } ∷ r
 -- order and at the turn's moment, and nothing else: up to a call that failed, where it ends.
 abbrev pub TurnsAreRecorded : Type 0
 TurnsAreRecorded =
-    (now : ℕ) (bounds : TurnBounds) (s : EngineModel) (given : List End) (accepts : List AcceptOutcome)
+    (now : ℕ) (bounds : TurnAcceptBounds) (s : EngineModel) (given : List End) (accepts : List AcceptOutcome)
     (reads : List EndRead) (rest : List End) (rounds : List ActWithEffectFates) (t : EngineModel) (r : RecordSoFar)
     (new : Option RecordSoFar)
-    → TurnOverEndsIsDoneInOrder now bounds s given accepts reads rest rounds t
-    → CallsAreRecorded now (calls_of_turn_over_ends s accepts reads rounds) (Some r) new
+    → TurnOverGivenEndsIsDoneInOrder now bounds s given accepts reads rest rounds t
+    → CallsAreRecorded now (calls_of_turn_over_given_ends s accepts reads rounds) (Some r) new
     → (later : RecordSoFar) × (new ≡ Some later)
     × HappeningsAreRecordedOrRecordEnds r
-    (recorded_at_moment now (happenings_of_steps (steps_of_turn_over_ends now s accepts reads rounds [])))
+    (recorded_at_moment now (happenings_of_steps (steps_of_turn_over_given_ends now s accepts reads rounds [])))
     later

@@ -1,22 +1,22 @@
 -- What a record is: the spelling of a table, moments and happenings, as a script has them.
 --
--- RecordSoFar: what is known of a record            TextIsAdded: a text was added whole, or the record ends
+-- RecordSoFar: what is known of a record            TextIsAddedOrRecordEnds: a text was added whole, or the record ends
 -- items_of_happening: a happening at a moment, as items
--- RecordBegins, HappeningIsRecorded: a record begins, and takes one more happening
+-- RecordBeginsWithTable, HappeningIsRecorded: a record begins, and takes one more happening
 -- ended_record: it ends
 -- RecordedHappening: a happening and its moment             EachHappeningIsRecorded: several, one after another
 -- HappeningsAreRecordedOrRecordEnds: several, where the record may end anywhere among them
 -- items_of_recorded, script_of_recorded: the items and the script that tell of them
 -- RecordedHappeningHasSpelling: what a script can tell of
--- IsRecordOfHappenings, RecordsAreScripts: the laws
+-- IsRecordOfHappenings, RecordIsScriptOfItsHappenings: the laws
 use Rattle.std.specs.Prelude.{◌≡◌, ℕ, ◌+◌, ◌-◌, ◌<◌, ◌≤◌, List, [], ◌∷◌, ◌++◌, length, Bool, true, false, not, ◌&&◌}
 use Rattle.std.specs.Prelude.{◌==◌, nat_le, if◌then◌else◌, Option, None, Some, ◌⊎◌}
 use Rattle.std.specs.Io.KnownBytes.{Appends}
 use Rattle.std.specs.List.{flat_map, AllByRecursion}
-use Rattle.hx_fields.specs.declared.limits.TheConstants.{END_OF_TIME}
+use Rattle.hx_fields.specs.declared.limits.TheConstants.{START_OF_YEAR_10000}
 use Rattle.proxy_script.specs.declared.limits.TheConstants.{MOST_SCRIPT_BYTES}
 use Rattle.proxy_script.specs.Happenings.{HappeningModel as Happening}
-use Rattle.proxy_script.specs.Script.{ItemModel as Item, Table, Moment, Happens, item_spelling, ItemHasSpelling}
+use Rattle.proxy_script.specs.Script.{ItemModel as Item, Table, Moment, Happens, item_spelling, ItemCanBeSpelled}
 use Rattle.proxy_script.specs.Script.{IsScript}
 
 -- what its writer holds, where that is known, how long it is, the moment that stands at its end, and whether it has
@@ -43,7 +43,7 @@ abbrev pub record_text_if_room : RecordSoFar → List ℕ → List ℕ
 record_text_if_room r text = if has_room r text then text else []
 
 -- a text was added whole, up to this moment; or the record has ended, with nothing of it
-pub record TextIsAdded (r : RecordSoFar) (text : List ℕ) (moment : ℕ) (new : RecordSoFar) : Type 0 where
+pub record TextIsAddedOrRecordEnds (r : RecordSoFar) (text : List ℕ) (moment : ℕ) (new : RecordSoFar) : Type 0 where
   pub written : Appends r.held new.held (record_text_if_room r text)
   pub len : new.len ≡ r.len + length (record_text_if_room r text)
   pub moment_is : new.moment ≡ (if has_room r text then moment else r.moment)
@@ -57,12 +57,13 @@ abbrev pub text_of_items : List Item → List ℕ
 text_of_items items = flat_map item_spelling items
 
 -- a record begins with its table
-abbrev pub RecordBegins : Option (List ℕ) → List ℕ → RecordSoFar → Type 0
-RecordBegins before table new = TextIsAdded (empty_record before) (item_spelling (Table table)) 0 new
+abbrev pub RecordBeginsWithTable : Option (List ℕ) → List ℕ → RecordSoFar → Type 0
+RecordBeginsWithTable before table new = TextIsAddedOrRecordEnds (empty_record before)
+    (item_spelling (Table table)) 0 new
 
 -- one more happening
 abbrev pub HappeningIsRecorded : RecordSoFar → ℕ → Happening → RecordSoFar → Type 0
-HappeningIsRecorded r now h new = TextIsAdded r (text_of_items (items_of_happening r.moment now h)) now new
+HappeningIsRecorded r now h new = TextIsAddedOrRecordEnds r (text_of_items (items_of_happening r.moment now h)) now new
 
 -- what happened, and when
 pub record RecordedHappening : Type 0 where
@@ -97,7 +98,7 @@ script_of_recorded table all_noted = item_spelling (Table table) ++ text_of_item
 
 -- a moment up to the end of the year 9999, and numbers of 64 bits
 abbrev pub RecordedHappeningHasSpelling : RecordedHappening → Type 0
-RecordedHappeningHasSpelling one = (one.moment < END_OF_TIME) × ItemHasSpelling (Happens one.happening)
+RecordedHappeningHasSpelling one = (one.moment < START_OF_YEAR_10000) × ItemCanBeSpelled (Happens one.happening)
 
 -- The record is the script of the first of these, whole: of all of them, unless it has ended; and it is no longer than
 -- a script.
@@ -110,16 +111,16 @@ pub record IsRecordOfHappenings (before : Option (List ℕ)) (table : List ℕ) 
   pub held : Appends before r.held (script_of_recorded table front)
   pub len : r.len ≡ length (script_of_recorded table front)
 
-abbrev pub RecordsAreScripts : Type 0
-RecordsAreScripts =
+abbrev pub RecordIsScriptOfItsHappenings : Type 0
+RecordIsScriptOfItsHappenings =
     (before : Option (List ℕ)) (table : List ℕ) (all_noted : List RecordedHappening) (begun new : RecordSoFar)
-    → RecordBegins before table begun
+    → RecordBeginsWithTable before table begun
     → begun.over ≡ false → HappeningsAreRecordedOrRecordEnds begun all_noted new
     → IsRecordOfHappenings before table all_noted new
 
 -- such a script is one of the grammar, of these items
-abbrev pub ScriptsAreSpelled : Type 0
-ScriptsAreSpelled =
-    (table : List ℕ) (all_noted : List RecordedHappening) → ItemHasSpelling (Table table)
+abbrev pub RecordedScriptsFollowGrammar : Type 0
+RecordedScriptsFollowGrammar =
+    (table : List ℕ) (all_noted : List RecordedHappening) → ItemCanBeSpelled (Table table)
     → AllByRecursion RecordedHappeningHasSpelling all_noted
     → IsScript (script_of_recorded table all_noted) table (items_of_recorded 0 all_noted)

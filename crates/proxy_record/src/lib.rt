@@ -10,4 +10,4 @@ mod recorder;
 mod recording;
 
 pub use crate::recorder::{RecordFault, Recorder};
-pub use crate::recording::Recording;
+pub use crate::recording::RecordedSockets;

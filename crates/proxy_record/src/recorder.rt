@@ -2,7 +2,8 @@
 ghost use Rattle.std.specs.Prelude.{◌≡◌, IfOk, OnOk};
 ghost use Rattle.std.specs.Io.KnownBytes.{Appends};
 ghost use Rattle.proxy_script.specs.Happenings.{model_of_happening};
-ghost use Rattle.proxy_record.specs.Records.{TextIsAdded, RecordBegins, HappeningIsRecorded, items_of_happening};
+ghost use Rattle.proxy_record.specs.Records.{TextIsAddedOrRecordEnds, RecordBeginsWithTable, HappeningIsRecorded};
+ghost use Rattle.proxy_record.specs.Records.{items_of_happening};
 ghost use Rattle.proxy_record.specs.Records.{text_of_items, ended_record};
 
 use proxy_script::{Happening, Item, MOST_SCRIPT_BYTES, item_text};
@@ -92,7 +93,7 @@ fn text_of_items(
 impl<W: Write + Drop> Recorder<W> {
     /// Begins a record with the bytes of the operator's table.
     pub fn begin(alloc: Global, writer: W, table: &[u8]) -> Result<Recorder<W>, RecordFault>
-        ensures { IfOk result (RecordBegins (W.contents writer) table.now) }
+        ensures { IfOk result (RecordBeginsWithTable (W.contents writer) table.now) }
     {
         let text = item_text(alloc, Item::Config(table))?;
         let mut recorder = Recorder {
@@ -122,7 +123,7 @@ impl<W: Write + Drop> Recorder<W> {
 
     /// Adds a text whole, up to a moment, unless the record has ended or ends here.
     fn add(&mut self, text: &[u8], moment: u64) -> Result<(), RecordFault>
-        ensures { OnOk result (TextIsAdded self.old text.now moment self.new) }
+        ensures { OnOk result (TextIsAddedOrRecordEnds self.old text.now moment self.new) }
     {
         if self.over {
             return Ok(());

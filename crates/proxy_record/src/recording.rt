@@ -24,13 +24,13 @@ ghost use Rattle.proxy_reads.specs.Received.{ReceivedBytesAreAtMostRoom};
 use crate::recorder::{RecordFault, Recorder};
 use hx_status::ReplyData;
 use proxy_script::Happening;
-use proxy_turn::{End, Received, SocketFailed, Sockets, happening_of_read};
+use proxy_turn::{End, Received, SocketCallFailed, Sockets, happening_of_read};
 use std::io::Write;
 use std::net::SocketAddrV4;
 
 /// Sockets, and the record of what they give, where one is written.
 #[derive(Drop)]
-pub struct Recording<K: Sockets + Drop, W: Write + Drop> {
+pub struct RecordedSockets<K: Sockets + Drop, W: Write + Drop> {
     pub sockets: K,
     recorder: Option<Recorder<W>>,
     fault: Option<RecordFault>,
@@ -66,8 +66,8 @@ fn note<W: Write + Drop>(
     true
 }
 
-impl<K: Sockets + Drop, W: Write + Drop> Recording<K, W> {
-    pub fn new(sockets: K, recorder: Option<Recorder<W>>) -> Recording<K, W>
+impl<K: Sockets + Drop, W: Write + Drop> RecordedSockets<K, W> {
+    pub fn new(sockets: K, recorder: Option<Recorder<W>>) -> RecordedSockets<K, W>
         ensures { result ≡ record {
           sockets = sockets;
           recorder = recorder;
@@ -80,7 +80,7 @@ impl<K: Sockets + Drop, W: Write + Drop> Recording<K, W> {
           failures = 0;
         } }
     {
-        Recording {
+        RecordedSockets {
             sockets,
             recorder,
             fault: None,
@@ -146,7 +146,7 @@ impl<K: Sockets + Drop, W: Write + Drop> Recording<K, W> {
     }
 
     /// Whether an end was passed over in this turn that may have something.
-    pub fn has_skipped_an_end(&self) -> bool
+    pub fn has_skipped_a_readable_end(&self) -> bool
         ensures { result ≡ self.now.passed }
     {
         self.passed
@@ -189,7 +189,7 @@ impl<K: Sockets + Drop, W: Write + Drop> Recording<K, W> {
     }
 
     /// Passes on what a call answered. One that failed is counted, and the record ends there.
-    fn pass_on(&mut self, done: Result<(), SocketFailed>) -> Result<(), SocketFailed>
+    fn pass_on(&mut self, done: Result<(), SocketCallFailed>) -> Result<(), SocketCallFailed>
         ensures value { result ≡ done }
         ensures sockets { self.new.sockets ≡ self.old.sockets }
         ensures fault { self.new.fault ≡ self.old.fault }
@@ -211,7 +211,7 @@ impl<K: Sockets + Drop, W: Write + Drop> Recording<K, W> {
     }
 }
 
-impl<K: Sockets + Drop, W: Write + Drop> Sockets for Recording<K, W> {
+impl<K: Sockets + Drop, W: Write + Drop> Sockets for RecordedSockets<K, W> {
     ghost Did = { λ s made t. (is_some s.fault ≡ true → is_some t.fault ≡ true) × (below : List Call)
         × K.Did s.sockets below t.sockets × CallsArePassedOn (is_some t.fault) made below
         × (is_some t.fault ≡ false → TurnIsRecorded s.moment s.recorder s.taken made t.moment t.recorder t.taken)
@@ -246,7 +246,7 @@ impl<K: Sockets + Drop, W: Write + Drop> Sockets for Recording<K, W> {
           ∙ first.5,
     ) };
 
-    fn accept(&mut self, n: u64) -> Result<bool, SocketFailed> {
+    fn accept(&mut self, n: u64) -> Result<bool, SocketCallFailed> {
         self.accepts = self.accepts.saturating_add(1);
         if !self.may_take_a_happening() {
             self.passed = true;
@@ -266,7 +266,7 @@ impl<K: Sockets + Drop, W: Write + Drop> Sockets for Recording<K, W> {
         }
     }
 
-    fn read(&mut self, end: End, buf: &mut [u8]) -> Result<Received, SocketFailed> {
+    fn read(&mut self, end: End, buf: &mut [u8]) -> Result<Received, SocketCallFailed> {
         self.reads = self.reads.saturating_add(1);
         if self.has_to_wait() {
             self.passed = true;
@@ -293,17 +293,17 @@ impl<K: Sockets + Drop, W: Write + Drop> Sockets for Recording<K, W> {
         end: End,
         bytes: &[u8],
         replied: Option<&ReplyData>,
-    ) -> Result<(), SocketFailed> {
+    ) -> Result<(), SocketCallFailed> {
         let written = self.sockets.write(end, bytes, replied);
         self.pass_on(written)
     }
 
-    fn connect(&mut self, link: u64, address: SocketAddrV4) -> Result<(), SocketFailed> {
+    fn connect(&mut self, link: u64, address: SocketAddrV4) -> Result<(), SocketCallFailed> {
         let connected = self.sockets.connect(link, address);
         self.pass_on(connected)
     }
 
-    fn shut(&mut self, end: End) -> Result<(), SocketFailed> {
+    fn shut(&mut self, end: End) -> Result<(), SocketCallFailed> {
         let shut = self.sockets.shut(end);
         self.pass_on(shut)
     }

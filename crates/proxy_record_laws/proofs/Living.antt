@@ -3,8 +3,8 @@ use Rattle.std.proofs.Common.{◌≡◌, inl, inr, ℕ, List, [], ◌∷◌, ◌
 use Rattle.std.specs.Prelude.{not, ◌&&◌}
 use Rattle.std.proofs.lemmas.Bool.{true≢false}
 use Rattle.proxy_script.specs.Happenings.{HappeningModel as Happening}
-use Rattle.proxy_turn.specs.Over.{calls_of_turn_over_ends}
-use Rattle.proxy_turn.specs.OverSteps.{steps_of_turn_over_ends}
+use Rattle.proxy_turn.specs.Over.{calls_of_turn_over_given_ends}
+use Rattle.proxy_turn.specs.OverSteps.{steps_of_turn_over_given_ends}
 use Rattle.proxy_turn.specs.declared.report.Report.{Report}
 use Rattle.proxy_turn.specs.declared.report.TurnFault.{TurnFault}
 use Rattle.proxy_record.specs.Records.{RecordSoFar, ended_record, RecordMayEnd, RecordedHappening, EachHappeningIsRecorded, HappeningsAreRecordedOrRecordEnds}
@@ -12,7 +12,7 @@ use Rattle.proxy_record.specs.Recorded.{CallsAreRecorded, TurnIsRecorded, record
 use Rattle.proxy_record.specs.RecordedTurns.{happenings_of_steps, recorded_at_moment, TurnsAreRecorded}
 use Rattle.proxy_server.specs.Losses.{EndLossesAreRecorded}
 use Rattle.proxy_server.specs.ServerState.{ServerState, state_at_turn_start}
-use Rattle.proxy_server.specs.Serving.{server_bounds}
+use Rattle.proxy_server.specs.Serving.{server_accept_bounds}
 use Rattle.proxy_record_laws.specs.LivesOfAServer.{happenings_of_server_turn, ServerLife, LifeContinuesByTurn, TurnsLeadToLife}
 
 -- ---- what was noted
@@ -70,7 +70,7 @@ module _ (recorded : TurnsAreRecorded) where
     pub losses : HappeningsAreRecordedOrRecordEnds r (recorded_at_moment (state_at_turn_start on.now l.server).moment on.served.handed_in.losses.lost) behind_losses
     pub behind : RecordSoFar
     pub held_last : m.server.recorder ≡ Some behind
-    pub turn : HappeningsAreRecordedOrRecordEnds behind_losses (recorded_at_moment (state_at_turn_start on.now l.server).moment (happenings_of_steps (steps_of_turn_over_ends (state_at_turn_start on.now l.server).moment on.served.handed_in.losses.after on.served.turn.turns.accepts on.served.turn.turns.reads on.served.turn.turns.rounds []))) behind
+    pub turn : HappeningsAreRecordedOrRecordEnds behind_losses (recorded_at_moment (state_at_turn_start on.now l.server).moment (happenings_of_steps (steps_of_turn_over_given_ends (state_at_turn_start on.now l.server).moment on.served.handed_in.losses.after on.served.turn.turns.accepts on.served.turn.turns.reads on.served.turn.turns.rounds []))) behind
 
   pub last_fine : (l : ServerLife) (reported : Result Report TurnFault) (m : ServerLife) (on : LifeContinuesByTurn l reported m) → m.server.failed ≡ false → on.last.failed ≡ false
   last_fine l reported m on fine = ap (λ (a : ServerState). a.failed) (sym on.server) ∙ fine
@@ -87,13 +87,13 @@ module _ (recorded : TurnsAreRecorded) where
       let mid = on.served.mid in
       let turns = on.served.turn.turns in
       let after = on.served.handed_in.losses.after in
-      let made = calls_of_turn_over_ends after turns.accepts turns.reads turns.rounds in
+      let made = calls_of_turn_over_given_ends after turns.accepts turns.reads turns.rounds in
       let lost = losses_noted begun.moment on.served.handed_in.losses.lost l.server.recorder r mid.recorder is (on.served.handed_in.notes (mid_fine l reported m on fine)) in
       let noted : TurnIsRecorded mid.moment mid.recorder mid.taken made on.last.moment on.last.recorder on.last.taken = on.served.turn.calls.notes (last_fine l reported m on fine) in
       let notes : CallsAreRecorded begun.moment made (Some lost.0) on.last.recorder =
       subst (λ (o : Option RecordSoFar). CallsAreRecorded begun.moment made o on.last.recorder) lost.1
       (subst (λ (n : ℕ). CallsAreRecorded n made mid.recorder on.last.recorder) on.served.handed_in.moment noted.notes) in
-      let turn = recorded begun.moment server_bounds after on.served.given turns.accepts turns.reads turns.rest turns.rounds turns.last lost.0 on.last.recorder turns.turn notes in
+      let turn = recorded begun.moment server_accept_bounds after on.served.given turns.accepts turns.reads turns.rest turns.rounds turns.last lost.0 on.last.recorder turns.turn notes in
       record {
         behind_losses = lost.0;
         held_then = lost.1;
@@ -108,7 +108,7 @@ module _ (recorded : TurnsAreRecorded) where
   noted_by_turn l reported m on r noted =
       let moment = (state_at_turn_start on.now l.server).moment in
       let lost = on.served.handed_in.losses.lost in
-      let took = happenings_of_steps (steps_of_turn_over_ends moment on.served.handed_in.losses.after on.served.turn.turns.accepts on.served.turn.turns.reads on.served.turn.turns.rounds []) in (
+      let took = happenings_of_steps (steps_of_turn_over_given_ends moment on.served.handed_in.losses.after on.served.turn.turns.accepts on.served.turn.turns.reads on.served.turn.turns.rounds []) in (
         noted.behind,
         noted.held_last,
         subst (λ (ns : List RecordedHappening). HappeningsAreRecordedOrRecordEnds r ns noted.behind) (sym (moments_joined moment lost took))

@@ -7,25 +7,25 @@ use Rattle.hx_store.specs.Stored.{Stored}
 use Rattle.proxy_script.specs.Happenings.{HappeningModel as Happening}
 use Rattle.proxy_script.specs.declared.effect_list.Effect.{Effect}
 use Rattle.proxy_engine.specs.EngineModel.{EngineModel}
-use Rattle.proxy_engine.specs.Due.{Act, IsDueFirst}
+use Rattle.proxy_engine.specs.Due.{Act, IsFirstDueAct}
 use Rattle.proxy_engine.specs.Executions.{ExecutionStep, Took, StepsLeadToModel, effects_of_steps}
 use Rattle.proxy_engine.specs.declared.work.End.{End}
 use Rattle.proxy_turn.specs.Calls.{AcceptOutcome}
 use Rattle.proxy_turn.specs.Turn.{EndRead, ActWithEffectFates}
-use Rattle.proxy_turn.specs.Over.{TurnOverEndsIsReported, calls_of_turn_over_ends}
-use Rattle.proxy_turn.specs.OverSteps.{steps_of_turn_over_ends, TurnOverEndsStepsEmitTheirEffects}
+use Rattle.proxy_turn.specs.Over.{TurnOverGivenEndsIsReported, calls_of_turn_over_given_ends}
+use Rattle.proxy_turn.specs.OverSteps.{steps_of_turn_over_given_ends, TurnOverGivenEndsStepsEmitTheirEffects}
 use Rattle.proxy_turn.specs.Served.{steps_taking_happenings}
-use Rattle.proxy_turn.specs.declared.bounds.TurnBounds.{TurnBounds}
+use Rattle.proxy_turn.specs.declared.bounds.TurnAcceptBounds.{TurnAcceptBounds}
 use Rattle.proxy_turn.specs.declared.limits.TheConstants.{MOST_ACTS_OF_A_TURN}
 use Rattle.proxy_turn.specs.declared.report.Report.{Report}
 use Rattle.proxy_turn.specs.declared.report.TurnFault.{TurnFault}
-use Rattle.proxy_turn_laws.specs.ActsOfATurn.{RoundsAreActsInOrder}
+use Rattle.proxy_turn_laws.specs.ActsOfATurn.{RoundsWithoutFailureAreActsInOrder}
 use Rattle.proxy_record.specs.Records.{RecordSoFar, RecordedHappening}
 use Rattle.proxy_record.specs.Recorded.{TurnIsRecorded, is_recording}
 use Rattle.proxy_record.specs.RecordedTurns.{happenings_of_steps, recorded_at_moment, TurnsAreRecorded}
 use Rattle.proxy_server.specs.Losses.{AtMostOneEndLossIsTaken}
 use Rattle.proxy_server.specs.ServerState.{ServerState, state_at_turn_start}
-use Rattle.proxy_server.specs.Serving.{server_bounds, turn_left_nothing_due}
+use Rattle.proxy_server.specs.Serving.{server_accept_bounds, turn_left_no_act_due}
 use Rattle.proxy_record_laws.specs.OneThing.{AtMostOneHappeningIsTaken}
 use Rattle.proxy_record_laws.specs.PlaysOfARecord.{NotedHappeningsArePlayedSoFar}
 use Rattle.proxy_record_laws.specs.LivesOfAServer.{steps_of_server_turn, ServerLife, LifeContinuesByTurn, TurnsLeadToLife}
@@ -48,12 +48,12 @@ losses_emit (h ∷ lost) past = losses_emit lost (Took h ∷ past)
 
 -- ---- what a turn leaves
 
-settles_due : (reported : Result Report TurnFault) (bounds : TurnBounds) (accepts : List AcceptOutcome) (begun : EngineModel) (reads : List EndRead) (rest : List End) (rounds : List ActWithEffectFates) (t : EngineModel) → TurnOverEndsIsReported bounds accepts begun reads rest rounds t reported
-    → turn_left_nothing_due reported ≡ true → IsDueFirst t None
+settles_due : (reported : Result Report TurnFault) (bounds : TurnAcceptBounds) (accepts : List AcceptOutcome) (begun : EngineModel) (reads : List EndRead) (rest : List End) (rounds : List ActWithEffectFates) (t : EngineModel) → TurnOverGivenEndsIsReported bounds accepts begun reads rest rounds t reported
+    → turn_left_no_act_due reported ≡ true → IsFirstDueAct t None
 settles_due (Err fault) bounds accepts begun reads rest rounds t told is = absurd (false≢true is)
 settles_due (Ok report) bounds accepts begun reads rest rounds t told is = by_count told.worked
   where
-    by_count : (length rounds ≡ 1000) ⊎ IsDueFirst t None → IsDueFirst t None
+    by_count : (length rounds ≡ 1000) ⊎ IsFirstDueAct t None → IsFirstDueAct t None
     by_count (inl all) = absurd (few (report.works) (told.works ∙ all) is)
       where
         few : (n : ℕ) → n ≡ 1000 → nat_lt n MOST_ACTS_OF_A_TURN ≡ true → ⊥
@@ -72,11 +72,11 @@ is_not true is = absurd (false≢true is)
 
 pub record Stands (table : Table) (held : List Stored) (serial : ℕ) (l : ServerLife) : Type 0 where
   pub played : NotedHappeningsArePlayedSoFar table held serial l.happened (effects_of_steps l.steps) l.model l.server.moment
-  pub settled : l.server.settled ≡ true → IsDueFirst l.model None
+  pub settled : l.server.settled ≡ true → IsFirstDueAct l.model None
 
-module _ (recorded : TurnsAreRecorded) (due : (s : EngineModel) → (a b : Option Act) → IsDueFirst s a → IsDueFirst s b → a ≡ b) (in_order : RoundsAreActsInOrder) (emit : TurnOverEndsStepsEmitTheirEffects) where
+module _ (recorded : TurnsAreRecorded) (due : (s : EngineModel) → (a b : Option Act) → IsFirstDueAct s a → IsFirstDueAct s b → a ≡ b) (in_order : RoundsWithoutFailureAreActsInOrder) (emit : TurnOverGivenEndsStepsEmitTheirEffects) where
   abbrev SettledOrTaken : ServerLife → ℕ → EngineModel → Bool → Type 0
-  SettledOrTaken l now s taken = (taken ≡ false → IsDueFirst s None) × (taken ≡ true → now ≡ l.server.moment)
+  SettledOrTaken l now s taken = (taken ≡ false → IsFirstDueAct s None) × (taken ≡ true → now ≡ l.server.moment)
 
   -- what may be taken in front of a turn, and at which moment
   begins_so : (table : Table) (held : List Stored) (serial : ℕ) (l : ServerLife) (now : ℕ) → Stands table held serial l → is_recording l.server.recorder ≡ true → SettledOrTaken l (state_at_turn_start now l.server).moment l.model (state_at_turn_start now l.server).taken
@@ -87,8 +87,8 @@ module _ (recorded : TurnsAreRecorded) (due : (s : EngineModel) → (a b : Optio
       )
 
   -- behind what was lost: where nothing was taken, nothing is due
-  due_behind : (taken later : Bool) (s after : EngineModel) (now : ℕ) (lost : List Happening) → AtMostOneHappeningIsTaken taken s now lost [] after later → (taken ≡ false → IsDueFirst s None) → later ≡ false → IsDueFirst after None
-  due_behind taken later s after now lost (inl a) none is = subst (λ (m : EngineModel). IsDueFirst m None) (sym a.works) (none (sym a.later_is ∙ is))
+  due_behind : (taken later : Bool) (s after : EngineModel) (now : ℕ) (lost : List Happening) → AtMostOneHappeningIsTaken taken s now lost [] after later → (taken ≡ false → IsFirstDueAct s None) → later ≡ false → IsFirstDueAct after None
+  due_behind taken later s after now lost (inl a) none is = subst (λ (m : EngineModel). IsFirstDueAct m None) (sym a.works) (none (sym a.later_is ∙ is))
   due_behind taken later s after now lost (inr a) none is = absurd (true≢false (sym a.later_is ∙ is))
 
   turn_stands : (table : Table) (held : List Stored) (serial : ℕ) (l : ServerLife) (reported : Result Report TurnFault) (m : ServerLife) (on : LifeContinuesByTurn l reported m) (r : RecordSoFar) → Stands table held serial l → l.server.recorder ≡ Some r → m.server.failed ≡ false → is_recording m.server.recorder ≡ true → Stands table held serial m
@@ -100,8 +100,8 @@ module _ (recorded : TurnsAreRecorded) (due : (s : EngineModel) → (a b : Optio
       let mid = on.served.mid in
       let last = on.last in
       let turns = on.served.turn.turns in
-      let made = calls_of_turn_over_ends after turns.accepts turns.reads turns.rounds in
-      let took = happenings_of_steps (steps_of_turn_over_ends moment after turns.accepts turns.reads turns.rounds []) in
+      let made = calls_of_turn_over_given_ends after turns.accepts turns.reads turns.rounds in
+      let took = happenings_of_steps (steps_of_turn_over_given_ends moment after turns.accepts turns.reads turns.rounds []) in
       let noted = turn_noted recorded l reported m on r kept_at fine in
       let writes_last : is_recording last.recorder ≡ true = ap (λ (a : ServerState). is_recording a.recorder) (sym on.server) ∙ writes in
       let unended : noted.behind.over ≡ false = is_not noted.behind.over (ap is_recording (sym noted.held_last) ∙ writes) in
@@ -117,7 +117,7 @@ module _ (recorded : TurnsAreRecorded) (due : (s : EngineModel) → (a b : Optio
       let mid_played : NotedHappeningsArePlayedSoFar table held serial happened (effects_of_steps past) after moment =
       subst (λ (es : List Effect). NotedHappeningsArePlayedSoFar table held serial happened es after moment) (append-nil (effects_of_steps l.steps) ∙ sym (losses_emit lost l.steps)) lost_played in
       let own : TurnIsRecorded mid.moment mid.recorder mid.taken made last.moment last.recorder last.taken = on.served.turn.calls.notes (last_fine recorded l reported m on fine) in
-      let played = turns_play_on due in_order emit table held serial happened past moment moment server_bounds after on.served.given turns.accepts turns.reads turns.rest turns.rounds turns.last mid.taken last.taken mid_played
+      let played = turns_play_on due in_order emit table held serial happened past moment moment server_accept_bounds after on.served.given turns.accepts turns.reads turns.rest turns.rounds turns.last mid.taken last.taken mid_played
       (due_behind taken mid.taken l.model after moment lost few begins.0) (λ is. refl) turns.turn (own.whole writes_last) (own.takes writes_last) in
       let all : happened ++ recorded_at_moment moment took ≡ m.happened =
       append_assoc l.happened (recorded_at_moment moment lost) (recorded_at_moment moment took) ∙ (ap (λ (ns : List RecordedHappening). l.happened ++ ns) (sym (moments_joined moment lost took)) ∙ sym on.happened) in
@@ -128,8 +128,8 @@ module _ (recorded : TurnsAreRecorded) (due : (s : EngineModel) → (a b : Optio
             (subst (λ (s : EngineModel). NotedHappeningsArePlayedSoFar table held serial m.happened (effects_of_steps m.steps) s moment) (sym on.model)
             (subst (λ (es : List Effect). NotedHappeningsArePlayedSoFar table held serial m.happened es turns.last moment) steps_are
             (subst (λ (ns : List RecordedHappening). NotedHappeningsArePlayedSoFar table held serial ns (effects_of_steps (steps_of_server_turn on.served l.steps)) turns.last moment) all played)));
-        settled = λ is. subst (λ (s : EngineModel). IsDueFirst s None) (sym on.model)
-            (settles_due reported server_bounds turns.accepts turns.turn.begun turns.reads turns.rest turns.rounds turns.last turns.reports (ap (λ (a : ServerState). a.settled) (sym on.server) ∙ is));
+        settled = λ is. subst (λ (s : EngineModel). IsFirstDueAct s None) (sym on.model)
+            (settles_due reported server_accept_bounds turns.accepts turns.turn.begun turns.reads turns.rest turns.rounds turns.last turns.reports (ap (λ (a : ServerState). a.settled) (sym on.server) ∙ is));
       }
 
   -- a record that is still being written was so before

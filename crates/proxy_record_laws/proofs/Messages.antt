@@ -2,26 +2,26 @@
 use Rattle.std.proofs.Common.{◌≡◌, ℕ, List, [], ◌∷◌, refl, sym, ap, ◌∙◌, subst, Result}
 use Rattle.std.specs.Prelude.{◌<◌}
 use Rattle.std.specs.List.{All}
-use Rattle.hx_fields.specs.declared.limits.TheConstants.{END_OF_TIME}
+use Rattle.hx_fields.specs.declared.limits.TheConstants.{START_OF_YEAR_10000}
 use Rattle.hx_allow.specs.TableLines.{Table}
 use Rattle.hx_store.specs.Stored.{Stored}
 use Rattle.proxy_core.specs.State.{State as CoreState}
 use Rattle.proxy_core.specs.Starts.{HoldsForEachResponseAtStart}
-use Rattle.proxy_core_laws.specs.SentMessages.{CanBeSent}
+use Rattle.proxy_core_laws.specs.SentMessages.{StartResponseCanBeSent}
 use Rattle.hx_allow.specs.Tables.{TableWasRead}
 use Rattle.proxy_engine.specs.Happenings.{HappeningModel, Accepts, Sends, Hears, Ends, Leaves, Retires, Overdues, Shuts, Fails}
 use Rattle.proxy_engine.specs.EngineModel.{EngineModel, model_after_happening}
 use Rattle.proxy_engine.specs.Executions.{ExecutionStep, Took, StepsLeadToModel}
 use Rattle.proxy_engine.specs.Beginnings.{ResponsesMayBeHeldAtStart, engine_model_at_start, store_holding}
 use Rattle.proxy_turn.specs.Calls.{Call}
-use Rattle.proxy_turn.specs.Over.{calls_of_turn_over_ends}
+use Rattle.proxy_turn.specs.Over.{calls_of_turn_over_given_ends}
 use Rattle.proxy_turn.specs.Served.{EngineLivedThroughSteps, EngineServesTurn, EngineContinuesByTurn, EngineKeepsItsTable, steps_taking_happenings, initial_model_of}
 use Rattle.proxy_turn.specs.declared.report.Report.{Report}
 use Rattle.proxy_turn.specs.declared.report.TurnFault.{TurnFault}
 use Rattle.proxy_turn_laws.specs.WritesOfATurn.{CallWritesOneMessage, EachWriteOfATurnIsOneMessage}
 use Rattle.proxy_turn_laws.specs.Dialogue.{RepliesFollowRequests}
 use Rattle.proxy_server.specs.ServerState.{ServerState, state_at_turn_start}
-use Rattle.proxy_server.specs.Serving.{server_bounds, ServerTurn}
+use Rattle.proxy_server.specs.Serving.{server_accept_bounds, ServerTurn}
 use Rattle.proxy_record_laws.specs.LivesOfAServer.{ALifeIsAnExecution, ServerLife, ServerBegins, LifeContinuesByTurn, TurnsLeadToLife}
 use Rattle.proxy_record_laws.proofs.Replaying.{turn_of_engine}
 use Rattle.proxy_record_laws.specs.MessagesOfAServer.{EachWriteOfAServerIsOneMessage, EachWriteOfALifeIsOneMessage, RepliesOfAServerFollowRequests}
@@ -63,9 +63,9 @@ writes_messages messages a b held first link steps s reported read begins execut
       executes = subst (λ (table : Table). StepsLeadToModel (engine_model_at_start table held first link) lost losses.after) same leads;
       represents = losses.represents;
     } in
-    let all = messages mid held first link lost a.moment server_bounds losses.after served.given turns.accepts turns.reads turns.rest turns.rounds turns.last (subst TableWasRead same read)
-    (subst (λ (table : Table). HoldsForEachResponseAtStart CanBeSent (store_holding table held)) same begins) lived early turns.turn in
-    subst (λ (table : Table). All (CallWritesOneMessage table.name) (calls_of_turn_over_ends losses.after turns.accepts turns.reads turns.rounds)) (sym same) all
+    let all = messages mid held first link lost a.moment server_accept_bounds losses.after served.given turns.accepts turns.reads turns.rest turns.rounds turns.last (subst TableWasRead same read)
+    (subst (λ (table : Table). HoldsForEachResponseAtStart StartResponseCanBeSent (store_holding table held)) same begins) lived early turns.turn in
+    subst (λ (table : Table). All (CallWritesOneMessage table.name) (calls_of_turn_over_given_ends losses.after turns.accepts turns.reads turns.rounds)) (sym same) all
 
 pub replies_follow : RepliesFollowRequests → ALifeIsAnExecution → RepliesOfAServerFollowRequests
 replies_follow follow executed bytes table kept serial begin l turns i begins leads =
@@ -81,9 +81,9 @@ life_keeps_table by_turn keeps executed bytes table kept serial begin l (reporte
     let before = leads.0 in
     let on = leads.2 in
     let begun = state_at_turn_start on.now before.server in
-    let serves : EngineServesTurn begun.moment server_bounds before.server.engine on.last.engine reported =
+    let serves : EngineServesTurn begun.moment server_accept_bounds before.server.engine on.last.engine reported =
     λ s represents orderly. turn_of_engine s begun on.last reported (on.serves s represents orderly) in
-    let goes_on = by_turn before.server.engine on.last.engine begun.moment server_bounds reported serves in
+    let goes_on = by_turn before.server.engine on.last.engine begun.moment server_accept_bounds reported serves in
     let lived = executed bytes table kept serial begin before past begins leads.1 in
     let stays = (keeps before.server.engine on.last.engine goes_on (record { held = kept; first = serial; link = 1; steps = before.steps; last = before.model; executed = lived })).0 in
     ap (λ (a : ServerState). a.engine.core.table) on.server ∙ (stays ∙ life_keeps_table by_turn keeps executed bytes table kept serial begin before past begins leads.1)
@@ -92,7 +92,7 @@ pub life_writes_messages : EachWriteOfATurnIsOneMessage → EngineContinuesByTur
 life_writes_messages messages by_turn keeps executed bytes table kept serial begin l m turns reported can begins leads on =
     let begun = state_at_turn_start on.now l.server in
     let same : table ≡ begun.engine.core.table = sym (life_keeps_table by_turn keeps executed bytes table kept serial begin l turns begins leads) in
-    let made = calls_of_turn_over_ends on.served.handed_in.losses.after on.served.turn.turns.accepts on.served.turn.turns.reads on.served.turn.turns.rounds in
+    let made = calls_of_turn_over_given_ends on.served.handed_in.losses.after on.served.turn.turns.accepts on.served.turn.turns.reads on.served.turn.turns.rounds in
     let lived = executed bytes table kept serial begin l turns begins leads in
-    let all = writes_messages messages begun on.last kept serial 1 l.steps l.model reported (subst TableWasRead same (bytes, begins.reads)) (subst (λ (t : Table). HoldsForEachResponseAtStart CanBeSent (store_holding t kept)) same can) lived on.early on.served in
+    let all = writes_messages messages begun on.last kept serial 1 l.steps l.model reported (subst TableWasRead same (bytes, begins.reads)) (subst (λ (t : Table). HoldsForEachResponseAtStart StartResponseCanBeSent (store_holding t kept)) same can) lived on.early on.served in
     subst (λ (t : Table). All (CallWritesOneMessage t.name) made) (sym same) all

@@ -6,10 +6,10 @@ use Rattle.proxy_script.specs.Happenings.{HappeningModel as Happening}
 use Rattle.proxy_script.specs.Script.{ItemModel as Item, Moment, Happens}
 use Rattle.proxy_script.specs.declared.effect_list.Effect.{Effect}
 use Rattle.proxy_engine.specs.EngineModel.{EngineModel, model_after_happening}
-use Rattle.proxy_engine.specs.Due.{Act, IsDueFirst}
+use Rattle.proxy_engine.specs.Due.{Act, IsFirstDueAct}
 use Rattle.proxy_engine.specs.Acts.{ActIsDone}
 use Rattle.proxy_engine.specs.Executions.{ActIsDoneInOneWay}
-use Rattle.proxy_replay.specs.Played.{DoneActWithEffects, ActsAreDoneInOrder, effects_of_acts, HappeningIsPlayed, PlayState, play_state_over, ItemIsPlayed, ItemsArePlayed}
+use Rattle.proxy_replay.specs.Played.{DoneActWithEffects, FirstDueActsAreDoneInOrder, effects_of_acts, HappeningAndDueActsArePlayed, PlayState, play_state_over_store, ItemIsPlayed, ItemsArePlayed}
 use Rattle.proxy_replay.specs.Runs.{ScriptHasOnePlay}
 use Rattle.proxy_record.specs.Records.{RecordedHappening, items_of_happening, items_of_recorded}
 use Rattle.proxy_record_laws.specs.PlaysOfARecord.{AWholePlayExtendsThePlaySoFar}
@@ -50,15 +50,15 @@ abbrev items_at : Bool → ℕ → Happening → List Item
 items_at same now h = if same then Happens h ∷ [] else Moment now ∷ Happens h ∷ []
 
 abbrev IsPlayedAt : PlayState → ℕ → Happening → List Effect → PlayState → Type 0
-IsPlayedAt b now h effects c = HappeningIsPlayed b.model now h effects c.model × (c.now ≡ now)
+IsPlayedAt b now h effects c = HappeningAndDueActsArePlayed b.model now h effects c.model × (c.now ≡ now)
 
 happens_played : (b c : PlayState) (now : ℕ) (h : Happening) (effects : List Effect) → now ≡ b.now → ItemsArePlayed b (Happens h ∷ []) effects c → IsPlayedAt b now h effects c
 happens_played b c now h effects is plays =
     let item : ItemIsPlayed b (Happens h) plays.1 plays.0 = plays.3 in
     let now_is : plays.0.now ≡ now = item.moment ∙ sym is in
-    let here : HappeningIsPlayed b.model now h plays.1 plays.0.model = subst (λ (n : ℕ). HappeningIsPlayed b.model n h plays.1 plays.0.model) now_is item.happened in
+    let here : HappeningAndDueActsArePlayed b.model now h plays.1 plays.0.model = subst (λ (n : ℕ). HappeningAndDueActsArePlayed b.model n h plays.1 plays.0.model) now_is item.happened in
     let all : effects ≡ plays.1 = plays.5 ∙ (ap (λ (es : List Effect). plays.1 ++ es) plays.4.0 ∙ append-nil plays.1) in (
-      subst (λ (m : PlayState). HappeningIsPlayed b.model now h effects m.model) (sym plays.4.1) (subst (λ (es : List Effect). HappeningIsPlayed b.model now h es plays.0.model) (sym all) here),
+      subst (λ (m : PlayState). HappeningAndDueActsArePlayed b.model now h effects m.model) (sym plays.4.1) (subst (λ (es : List Effect). HappeningAndDueActsArePlayed b.model now h es plays.0.model) (sym all) here),
       subst (λ (m : PlayState). m.now ≡ now) (sym plays.4.1) now_is,
     )
 
@@ -68,10 +68,10 @@ one_played false b c now h effects is plays =
     let item : ItemIsPlayed b (Moment now) plays.1 plays.0 = plays.3 in
     let all : effects ≡ plays.2 = plays.5 ∙ ap (λ (es : List Effect). es ++ plays.2) item.happened.0 in
     let here : IsPlayedAt plays.0 now h plays.2 c = happens_played plays.0 c now h plays.2 (sym item.moment) plays.4 in
-    let from : IsPlayedAt b now h plays.2 c = subst (λ (m : EngineModel). HappeningIsPlayed m now h plays.2 c.model × (c.now ≡ now)) item.happened.1 here in
+    let from : IsPlayedAt b now h plays.2 c = subst (λ (m : EngineModel). HappeningAndDueActsArePlayed m now h plays.2 c.model × (c.now ≡ now)) item.happened.1 here in
     subst (λ (es : List Effect). IsPlayedAt b now h es c) (sym all) from
 
-pub play_one : (same : Bool) (b : PlayState) (now : ℕ) (h : Happening) (effects : List Effect) (t : EngineModel) → (same ≡ true → now ≡ b.now) → HappeningIsPlayed b.model now h effects t → ItemsArePlayed b (items_at same now h) effects (record { model = t; now = now })
+pub play_one : (same : Bool) (b : PlayState) (now : ℕ) (h : Happening) (effects : List Effect) (t : EngineModel) → (same ≡ true → now ≡ b.now) → HappeningAndDueActsArePlayed b.model now h effects t → ItemsArePlayed b (items_at same now h) effects (record { model = t; now = now })
 play_one true b now h effects t is plays =
     (record { model = t; now = now }, effects, [], record { moment = is refl; happened = plays }, (refl, refl), sym (append-nil effects))
 play_one false b now h effects t is plays =
@@ -98,28 +98,28 @@ none_some : {P : Type 0} (act : Act) → ◌≡◌ {A = Option Act} None (Some a
 none_some {P} act h = absurd (cc)
 
 abbrev IsPrefix : List DoneActWithEffects → List DoneActWithEffects → EngineModel → Type 0
-IsPrefix xs ys last = (rest : List Effect) × (effects_of_acts ys ≡ effects_of_acts xs ++ rest) × (IsDueFirst last None → rest ≡ [])
+IsPrefix xs ys last = (rest : List Effect) × (effects_of_acts ys ≡ effects_of_acts xs ++ rest) × (IsFirstDueAct last None → rest ≡ [])
 
-module _ (due : (s : EngineModel) → (a b : Option Act) → IsDueFirst s a → IsDueFirst s b → a ≡ b) where
+module _ (due : (s : EngineModel) → (a b : Option Act) → IsFirstDueAct s a → IsFirstDueAct s b → a ≡ b) where
   -- where nothing is due none is done
-  pub no_act : (xs : List DoneActWithEffects) (s : EngineModel) (now : ℕ) (t : EngineModel) → IsDueFirst s None → ActsAreDoneInOrder s now xs t → (xs ≡ []) × (t ≡ s)
+  pub no_act : (xs : List DoneActWithEffects) (s : EngineModel) (now : ℕ) (t : EngineModel) → IsFirstDueAct s None → FirstDueActsAreDoneInOrder s now xs t → (xs ≡ []) × (t ≡ s)
   no_act [] s now t none h = (refl, h)
   no_act (x ∷ xs) s now t none h = none_some x.act (due s None (Some x.act) none h.1)
 
   module _ (done : ActIsDoneInOneWay) where
-    prefix : (xs ys : List DoneActWithEffects) (s : EngineModel) (now : ℕ) (last u : EngineModel) → ActsAreDoneInOrder s now xs last → ActsAreDoneInOrder s now ys u → IsDueFirst u None → IsPrefix xs ys last
+    prefix : (xs ys : List DoneActWithEffects) (s : EngineModel) (now : ℕ) (last u : EngineModel) → FirstDueActsAreDoneInOrder s now xs last → FirstDueActsAreDoneInOrder s now ys u → IsFirstDueAct u None → IsPrefix xs ys last
     prefix [] ys s now last u h k j = (
       effects_of_acts ys,
       refl,
-      λ none. ap effects_of_acts (no_act ys s now u (subst (λ (m : EngineModel). IsDueFirst m None) h none) k).0,
+      λ none. ap effects_of_acts (no_act ys s now u (subst (λ (m : EngineModel). IsFirstDueAct m None) h none) k).0,
     )
-    prefix (x ∷ xs) [] s now last u h k j = none_some x.act (due s None (Some x.act) (subst (λ (m : EngineModel). IsDueFirst m None) k j) h.1)
+    prefix (x ∷ xs) [] s now last u h k j = none_some x.act (due s None (Some x.act) (subst (λ (m : EngineModel). IsFirstDueAct m None) k j) h.1)
     prefix (x ∷ xs) (y ∷ ys) s now last u h k j =
         let some : Some x.act ≡ Some y.act = due s (Some x.act) (Some y.act) h.1 k.1 in
         let act : x.act ≡ y.act = cc in
         let does : ActIsDone s now x.act y.effects k.0 = subst (λ (a : Act). ActIsDone s now a y.effects k.0) (sym act) k.2 in
         let same = done s now x.act x.effects y.effects h.0 k.0 h.2 does in
-        let rest = prefix xs ys h.0 now last u h.3 (subst (λ (m : EngineModel). ActsAreDoneInOrder m now ys u) (sym same.1) k.3) j in (
+        let rest = prefix xs ys h.0 now last u h.3 (subst (λ (m : EngineModel). FirstDueActsAreDoneInOrder m now ys u) (sym same.1) k.3) j in (
           rest.0,
           ap (λ (es : List Effect). es ++ effects_of_acts ys) (sym same.0) ∙ (ap (λ (es : List Effect). x.effects ++ es) rest.1 ∙ sym (append_assoc x.effects (effects_of_acts xs) rest.0)),
           rest.2,
@@ -129,10 +129,10 @@ module _ (due : (s : EngineModel) → (a b : Option Act) → IsDueFirst s a → 
 
     pub play_goes_on : ScriptHasOnePlay → AWholePlayExtendsThePlaySoFar
     play_goes_on once table held serial all_noted effects all_effects last now end (inl yet) plays =
-        let none : ItemsArePlayed (play_state_over table held serial) [] all_effects end = subst (λ (ns : List RecordedHappening). ItemsArePlayed (play_state_over table held serial) (items_of_recorded 0 ns) all_effects end) yet.0 plays in
+        let none : ItemsArePlayed (play_state_over_store table held serial) [] all_effects end = subst (λ (ns : List RecordedHappening). ItemsArePlayed (play_state_over_store table held serial) (items_of_recorded 0 ns) all_effects end) yet.0 plays in
         (all_effects, ap (λ (es : List Effect). es ++ all_effects) (sym yet.1), λ due_none. none.0)
     play_goes_on once table held serial all_noted effects all_effects last now end (inr so_far) plays =
-        let begin = play_state_over table held serial in
+        let begin = play_state_over_store table held serial in
         let front = so_far.front in
         let one = so_far.one in
         let before = so_far.before in

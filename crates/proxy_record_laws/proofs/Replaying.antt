@@ -6,35 +6,35 @@ use Rattle.std.specs.Io.KnownBytes.{Appends}
 use Rattle.std.specs.List.{AllByRecursion}
 use Rattle.hx_allow.specs.TableLines.{Table}
 use Rattle.hx_allow.specs.Tables.{BytesReadAsTable}
-use Rattle.hx_allow.specs.declared.config_faults.ConfigFault.{ConfigFault}
+use Rattle.hx_allow.specs.declared.config_faults.TableFault.{TableFault}
 use Rattle.hx_store.specs.Stored.{Stored}
 use Rattle.proxy_script.specs.Effects.{effects_text}
 use Rattle.proxy_script.specs.Happenings.{HappeningModel as Happening}
-use Rattle.proxy_script.specs.Script.{ItemModel as Item, Moment, Happens, line_of_item, block_of_item, item_spelling, ItemHasSpelling, ItemIsAllowedAtPosition, IsScript, Found, leading_item}
+use Rattle.proxy_script.specs.Script.{ItemModel as Item, Moment, Happens, line_of_item, block_of_item, item_spelling, ItemCanBeSpelled, ItemIsAllowedAtPosition, IsScript, Found, leading_item}
 use Rattle.proxy_script.specs.Script as item
 use Rattle.proxy_script.specs.ScriptLines.{line_text}
 use Rattle.proxy_script.specs.declared.limits.TheConstants.{MOST_SCRIPT_BYTES}
 use Rattle.proxy_script.specs.declared.effect_list.Effect.{Effect}
 use Rattle.proxy_engine.specs.EngineModel.{EngineModel}
-use Rattle.proxy_engine.specs.Due.{Act, IsDueFirst}
+use Rattle.proxy_engine.specs.Due.{Act, IsFirstDueAct}
 use Rattle.proxy_engine.specs.Executions.{ExecutionStep, StepsLeadToModel, effects_of_steps}
 use Rattle.proxy_engine.specs.Beginnings.{ResponsesMayBeHeldAtStart, engine_model_at_start}
 use Rattle.proxy_engine.specs.State.{EngineRepresents}
-use Rattle.proxy_replay.specs.Played.{PlayState, play_state_over, ItemsArePlayed}
-use Rattle.proxy_replay.specs.Replay.{IsReplayedOverAStore}
-use Rattle.proxy_turn.specs.OverSteps.{TurnOverEndsStepsEmitTheirEffects}
+use Rattle.proxy_replay.specs.Played.{PlayState, play_state_over_store, ItemsArePlayed}
+use Rattle.proxy_replay.specs.Replay.{ScriptIsReplayedOverAStore}
+use Rattle.proxy_turn.specs.OverSteps.{TurnOverGivenEndsStepsEmitTheirEffects}
 use Rattle.proxy_turn.specs.Served.{initial_model_of, EngineLivedThroughSteps, TurnIsServedAfterEndLosses, TurnExecutesItsSteps, ExecutedEngineHasServedAGoodRun}
 use Rattle.proxy_turn.specs.declared.report.Report.{Report}
 use Rattle.proxy_turn.specs.declared.report.TurnFault.{TurnFault}
 use Rattle.proxy_turn.specs.declared.report.TurnFault.TheVariants as faults
-use Rattle.proxy_turn_laws.specs.ActsOfATurn.{RoundsAreActsInOrder}
-use Rattle.proxy_record.specs.Records.{RecordSoFar, record_text_if_room, items_of_happening, text_of_items, RecordBegins, RecordedHappening, RecordMayEnd, HappeningsAreRecordedOrRecordEnds, items_of_recorded, script_of_recorded, RecordedHappeningHasSpelling, IsRecordOfHappenings, RecordsAreScripts, ScriptsAreSpelled}
+use Rattle.proxy_turn_laws.specs.ActsOfATurn.{RoundsWithoutFailureAreActsInOrder}
+use Rattle.proxy_record.specs.Records.{RecordSoFar, record_text_if_room, items_of_happening, text_of_items, RecordBeginsWithTable, RecordedHappening, RecordMayEnd, HappeningsAreRecordedOrRecordEnds, items_of_recorded, script_of_recorded, RecordedHappeningHasSpelling, IsRecordOfHappenings, RecordIsScriptOfItsHappenings, RecordedScriptsFollowGrammar}
 use Rattle.proxy_record.specs.Recorded.{is_recording}
 use Rattle.proxy_record.specs.RecordedTurns.{recorded_at_moment, TurnsAreRecorded}
 use Rattle.proxy_server.specs.ServerState.{ServerState, state_at_turn_start}
-use Rattle.proxy_server.specs.Serving.{server_bounds, ServerTurn, TurnIsServedAndSettled}
+use Rattle.proxy_server.specs.Serving.{server_accept_bounds, ServerTurn, TurnIsServedAndSettled}
 use Rattle.proxy_record_laws.specs.PlaysOfARecord.{AWholePlayExtendsThePlaySoFar}
-use Rattle.proxy_record_laws.specs.LivesOfAServer.{steps_of_server_turn, happenings_of_server_turn, ServerLife, ServerBegins, LifeBegins, LifeContinuesByTurn, TurnsLeadToLife, AServerBegins, ANewServerBegins, ALifeIsAnExecution, AServedTurnContinuesTheLife, ATurnOutOfLinkNumbersContinuesTheLife, ARecordReplaysWhatWasServed, AnEndedRecordReplaysWhatWasServed}
+use Rattle.proxy_record_laws.specs.LivesOfAServer.{steps_of_server_turn, happenings_of_server_turn, ServerLife, ServerBegins, RecordedLifeBegins, LifeContinuesByTurn, TurnsLeadToLife, AServerBegins, NewServerBeginsRecordedLife, ALifeIsAnExecution, AServedTurnContinuesTheLife, ATurnOutOfLinkNumbersContinuesTheLife, ARecordReplaysWhatWasServed, AnEndedRecordReplaysWhatWasServed}
 use Rattle.proxy_record_laws.proofs.Playing.{moment_behind, items_joined, played_in_two}
 use Rattle.proxy_record_laws.proofs.PlayingOn.{nothing_due}
 use Rattle.proxy_record_laws.proofs.Living.{noted_joined, first_fine, life_noted}
@@ -58,7 +58,7 @@ server_begins bytes table kept serial a reads table_is may represents = (
   },
 )
 
-pub new_server_begins : ANewServerBegins
+pub new_server_begins : NewServerBeginsRecordedLife
 unfolding server_begins
 new_server_begins bytes table kept serial a begun reads table_is may represents recorder begins unended =
     let server = server_begins bytes table kept serial a reads table_is may represents in
@@ -75,7 +75,7 @@ begins_with_no_step bytes table kept serial l begins =
     }
 
 -- a turn of a server, as one of an engine
-abbrev pub turn_of_engine : (s : EngineModel) (a b : ServerState) (reported : Result Report TurnFault) → ServerTurn s a b reported → TurnIsServedAfterEndLosses a.moment server_bounds s b.engine reported
+abbrev pub turn_of_engine : (s : EngineModel) (a b : ServerState) (reported : Result Report TurnFault) → ServerTurn s a b reported → TurnIsServedAfterEndLosses a.moment server_accept_bounds s b.engine reported
 turn_of_engine s a b reported turn = record {
   lost = turn.handed_in.losses.lost;
   are_losses = turn.handed_in.losses.are_losses;
@@ -96,7 +96,7 @@ life_is_executed by_steps bytes table kept serial begin l (reported ∷ past) be
     let begun = state_at_turn_start on.now before.server in
     let executed = life_is_executed by_steps bytes table kept serial begin before past begins leads.1 in
     let lived : EngineLivedThroughSteps on.last.engine kept serial 1 (steps_of_server_turn on.served before.steps) on.served.turn.turns.last =
-    by_steps before.server.engine on.last.engine kept serial 1 before.steps before.model begun.moment server_bounds reported executed (turn_of_engine before.model begun on.last reported on.served) in
+    by_steps before.server.engine on.last.engine kept serial 1 before.steps before.model begun.moment server_accept_bounds reported executed (turn_of_engine before.model begun on.last reported on.served) in
     subst (λ (a : ServerState). EngineLivedThroughSteps a.engine kept serial 1 l.steps l.model) (sym on.server)
     (subst (λ (s : EngineModel). EngineLivedThroughSteps on.last.engine kept serial 1 l.steps s) (sym on.model)
     (subst (λ (ss : List ExecutionStep). EngineLivedThroughSteps on.last.engine kept serial 1 ss on.served.turn.turns.last) (sym on.steps) lived))
@@ -195,7 +195,7 @@ few_bytes : (n : ℕ) → nat_le n (MOST_SCRIPT_BYTES - 0) ≡ true → n ≤ 16
 few_bytes n fits = grind (arith, nat_tests)
 
 -- a table with which a record begins has a spelling
-table_has_spelling : (bytes : List ℕ) (begun : RecordSoFar) → RecordBegins (Some []) bytes begun → begun.over ≡ false → ItemHasSpelling (item.Table bytes)
+table_has_spelling : (bytes : List ℕ) (begun : RecordSoFar) → RecordBeginsWithTable (Some []) bytes begun → begun.over ≡ false → ItemCanBeSpelled (item.Table bytes)
 table_has_spelling bytes begun begins unended =
     let text = item_spelling (item.Table bytes) in
     let fits : nat_le (length text) (MOST_SCRIPT_BYTES - 0) ≡ true = isnt (nat_le (length text) (MOST_SCRIPT_BYTES - 0)) (sym begins.ends ∙ unended) in
@@ -213,16 +213,16 @@ life_fine : TurnsAreRecorded → (turns : List (Result Report TurnFault)) (l m :
 life_fine recorded [] l m same fine = ap (λ (k : ServerLife). k.server.failed) (sym same) ∙ fine
 life_fine recorded (reported ∷ past) l m leads fine = life_fine recorded past l leads.0 leads.1 (first_fine recorded leads.0 reported m leads.2 fine)
 
-module _ (recorded : TurnsAreRecorded) (due : (s : EngineModel) → (a b : Option Act) → IsDueFirst s a → IsDueFirst s b → a ≡ b) (in_order : RoundsAreActsInOrder) (emit : TurnOverEndsStepsEmitTheirEffects) (goes_on : AWholePlayExtendsThePlaySoFar) where
-  module _ (one_table : (bytes : List ℕ) (r s : Result Table ConfigFault) → BytesReadAsTable bytes r → BytesReadAsTable bytes s → r ≡ s) (again : (first : Bool) (h : Item) (rest : List ℕ) → ItemHasSpelling h → ItemIsAllowedAtPosition first h → leading_item first (item_spelling h ++ rest) ≡ Found h rest)
-      (scripts : RecordsAreScripts) (spelled : ScriptsAreSpelled) where
+module _ (recorded : TurnsAreRecorded) (due : (s : EngineModel) → (a b : Option Act) → IsFirstDueAct s a → IsFirstDueAct s b → a ≡ b) (in_order : RoundsWithoutFailureAreActsInOrder) (emit : TurnOverGivenEndsStepsEmitTheirEffects) (goes_on : AWholePlayExtendsThePlaySoFar) where
+  module _ (one_table : (bytes : List ℕ) (r s : Result Table TableFault) → BytesReadAsTable bytes r → BytesReadAsTable bytes s → r ≡ s) (again : (first : Bool) (h : Item) (rest : List ℕ) → ItemCanBeSpelled h → ItemIsAllowedAtPosition first h → leading_item first (item_spelling h ++ rest) ≡ Found h rest)
+      (scripts : RecordIsScriptOfItsHappenings) (spelled : RecordedScriptsFollowGrammar) where
     record PlaysNoted (table : Table) (kept : List Stored) (serial : ℕ) (ns : List RecordedHappening) (text : List ℕ) : Type 0 where
       effects : List Effect
       end : PlayState
-      plays : ItemsArePlayed (play_state_over table kept serial) (items_of_recorded 0 ns) effects end
+      plays : ItemsArePlayed (play_state_over_store table kept serial) (items_of_recorded 0 ns) effects end
       text_is : text ≡ effects_text effects
 
-    replay_plays : (table : Table) (kept : List Stored) (serial : ℕ) (bytes : List ℕ) (ns : List RecordedHappening) (script text : List ℕ) → BytesReadAsTable bytes (Ok table) → script ≡ script_of_recorded bytes ns → ItemHasSpelling (item.Table bytes) → AllByRecursion RecordedHappeningHasSpelling ns → IsReplayedOverAStore kept serial script text → PlaysNoted table kept serial ns text
+    replay_plays : (table : Table) (kept : List Stored) (serial : ℕ) (bytes : List ℕ) (ns : List RecordedHappening) (script text : List ℕ) → BytesReadAsTable bytes (Ok table) → script ≡ script_of_recorded bytes ns → ItemCanBeSpelled (item.Table bytes) → AllByRecursion RecordedHappeningHasSpelling ns → ScriptIsReplayedOverAStore kept serial script text → PlaysNoted table kept serial ns text
     replay_plays table kept serial bytes ns script text reads is fits all replayed =
         let here : IsScript script bytes (items_of_recorded 0 ns) = subst (λ (bs : List ℕ). IsScript bs bytes (items_of_recorded 0 ns)) (sym is) (spelled bytes ns fits all) in
         let same = one_script again script bytes replayed.table (items_of_recorded 0 ns) replayed.items here replayed.is_script in
@@ -231,15 +231,15 @@ module _ (recorded : TurnsAreRecorded) (due : (s : EngineModel) → (a b : Optio
         record {
           effects = replayed.effects;
           end = replayed.last;
-          plays = subst (λ (t : Table). ItemsArePlayed (play_state_over t kept serial) (items_of_recorded 0 ns) replayed.effects replayed.last) (sym config)
-              (subst (λ (is : List Item). ItemsArePlayed (play_state_over replayed.config kept serial) is replayed.effects replayed.last) (sym same.items_are) replayed.plays);
+          plays = subst (λ (t : Table). ItemsArePlayed (play_state_over_store t kept serial) (items_of_recorded 0 ns) replayed.effects replayed.last) (sym config)
+              (subst (λ (is : List Item). ItemsArePlayed (play_state_over_store replayed.config kept serial) is replayed.effects replayed.last) (sym same.items_are) replayed.plays);
           text_is = replayed.emitted;
         }
 
-    begin_stands : (bytes : List ℕ) (table : Table) (kept : List Stored) (serial : ℕ) (begin : ServerLife) → LifeBegins bytes table kept serial begin → Stands table kept serial begin
+    begin_stands : (bytes : List ℕ) (table : Table) (kept : List Stored) (serial : ℕ) (begin : ServerLife) → RecordedLifeBegins bytes table kept serial begin → Stands table kept serial begin
     begin_stands bytes table kept serial begin begins = record {
       played = inl (begins.server.happened, ap effects_of_steps begins.server.steps, begins.server.model);
-      settled = λ is. subst (λ (s : EngineModel). IsDueFirst s None) (sym begins.server.model) (nothing_due table kept serial);
+      settled = λ is. subst (λ (s : EngineModel). IsFirstDueAct s None) (sym begins.server.model) (nothing_due table kept serial);
     }
 
     -- all that happened since the beginning was noted
@@ -249,7 +249,7 @@ module _ (recorded : TurnsAreRecorded) (due : (s : EngineModel) → (a b : Optio
       noted : HappeningsAreRecordedOrRecordEnds begun l.happened r
       of : IsRecordOfHappenings (Some []) bytes l.happened r
 
-    all_noted : (bytes : List ℕ) (table : Table) (kept : List Stored) (serial : ℕ) (begin l : ServerLife) (turns : List (Result Report TurnFault)) (begins : LifeBegins bytes table kept serial begin) → TurnsLeadToLife begin turns l → l.server.failed ≡ false → Noted bytes begins.begun l
+    all_noted : (bytes : List ℕ) (table : Table) (kept : List Stored) (serial : ℕ) (begin l : ServerLife) (turns : List (Result Report TurnFault)) (begins : RecordedLifeBegins bytes table kept serial begin) → TurnsLeadToLife begin turns l → l.server.failed ≡ false → Noted bytes begins.begun l
     all_noted bytes table kept serial begin l turns begins leads fine =
         let since = life_noted recorded turns begin l begins.begun leads begins.recorder fine in
         let all : since.since ≡ l.happened = sym (since.happened ∙ ap (λ (ns : List RecordedHappening). ns ++ since.since) begins.server.happened) in
@@ -304,9 +304,9 @@ module _ (recorded : TurnsAreRecorded) (due : (s : EngineModel) → (a b : Optio
         let script_is : script ≡ script_of_recorded bytes of.front = held_is k.held script (script_of_recorded bytes of.front) held of.held in
         let all_front : AllByRecursion RecordedHappeningHasSpelling of.front = all_in_front RecordedHappeningHasSpelling of.front of.rest (subst (AllByRecursion RecordedHappeningHasSpelling) (since.happened ∙ of.split) all) in
         let plays = replay_plays table kept serial bytes of.front script text begins.server.reads script_is (table_has_spelling bytes begins.begun begins.begins begins.unended) all_front replayed in
-        let items : ItemsArePlayed (play_state_over table kept serial) (items_of_recorded 0 l.happened ++ items_of_recorded (moment_behind 0 l.happened) front.0) plays.effects plays.end =
-        subst (λ (is : List Item). ItemsArePlayed (play_state_over table kept serial) is plays.effects plays.end) (ap (items_of_recorded 0) front.1 ∙ items_joined 0 l.happened front.0) plays.plays in
-        let parts = played_in_two (items_of_recorded 0 l.happened) (items_of_recorded (moment_behind 0 l.happened) front.0) (play_state_over table kept serial) plays.end plays.effects items in
+        let items : ItemsArePlayed (play_state_over_store table kept serial) (items_of_recorded 0 l.happened ++ items_of_recorded (moment_behind 0 l.happened) front.0) plays.effects plays.end =
+        subst (λ (is : List Item). ItemsArePlayed (play_state_over_store table kept serial) is plays.effects plays.end) (ap (items_of_recorded 0) front.1 ∙ items_joined 0 l.happened front.0) plays.plays in
+        let parts = played_in_two (items_of_recorded 0 l.happened) (items_of_recorded (moment_behind 0 l.happened) front.0) (play_state_over_store table kept serial) plays.end plays.effects items in
         let stands = life_stands recorded due in_order emit turns table kept serial begin l begins.begun (begin_stands bytes table kept serial begin begins) leads begins.recorder first_fine_is writes in
         let on = goes_on table kept serial l.happened (effects_of_steps l.steps) parts.1 l.model l.server.moment parts.0 stands.played parts.3 in (
           on.0 ++ parts.2,

@@ -1,7 +1,7 @@
 -- A script is the spelling of one table and of one list of items.
 use Rattle.std.proofs.Common.{◌≡◌, ℕ, List, [], ◌∷◌, ◌++◌, refl, sym, ap, ◌∙◌, Bool, true, false}
 use Rattle.std.specs.List.{flat_map, AllByRecursion}
-use Rattle.proxy_script.specs.Script.{ItemModel as Item, item_spelling, ItemHasSpelling, ItemIsAllowedAtPosition, IsScript, ItemReading, Found, Cut, leading_item}
+use Rattle.proxy_script.specs.Script.{ItemModel as Item, item_spelling, ItemCanBeSpelled, ItemIsAllowedAtPosition, IsScript, ItemReading, Found, Cut, leading_item}
 use Rattle.proxy_script.specs.Script as item
 
 item_nil : (first : Bool) → leading_item first [] ≡ Cut
@@ -16,20 +16,20 @@ pub record SameScript (t u : List ℕ) (items others : List Item) : Type 0 where
   pub table_is : t ≡ u
   pub items_are : items ≡ others
 
-module _ (again : (first : Bool) (h : Item) (rest : List ℕ) → ItemHasSpelling h → ItemIsAllowedAtPosition first h → leading_item first (item_spelling h ++ rest) ≡ Found h rest) where
+module _ (again : (first : Bool) (h : Item) (rest : List ℕ) → ItemCanBeSpelled h → ItemIsAllowedAtPosition first h → leading_item first (item_spelling h ++ rest) ≡ Found h rest) where
   record SameFront (h k : Item) (xs ys : List ℕ) : Type 0 where
     item_is : h ≡ k
     rest_is : xs ≡ ys
 
-  front_once : (first : Bool) (h k : Item) (xs ys : List ℕ) → ItemHasSpelling h → ItemIsAllowedAtPosition first h → ItemHasSpelling k → ItemIsAllowedAtPosition first k → (item_spelling h ++ xs) ≡ (item_spelling k ++ ys) → SameFront h k xs ys
+  front_once : (first : Bool) (h k : Item) (xs ys : List ℕ) → ItemCanBeSpelled h → ItemIsAllowedAtPosition first h → ItemCanBeSpelled k → ItemIsAllowedAtPosition first k → (item_spelling h ++ xs) ≡ (item_spelling k ++ ys) → SameFront h k xs ys
   front_once first h k xs ys f p g q e =
       let found : Found h xs ≡ Found k ys = sym (again first h xs f p) ∙ (ap (leading_item first) e ∙ again first k ys g q) in
       record { item_is = cc; rest_is = cc }
 
-  never_empty : {P : Type 0} (h : Item) (xs : List ℕ) → ItemHasSpelling h → ItemIsAllowedAtPosition false h → (item_spelling h ++ xs) ≡ [] → P
+  never_empty : {P : Type 0} (h : Item) (xs : List ℕ) → ItemCanBeSpelled h → ItemIsAllowedAtPosition false h → (item_spelling h ++ xs) ≡ [] → P
   never_empty {P} h xs f p e = let found : Found h xs ≡ Cut = sym (again false h xs f p) ∙ (ap (leading_item false) e ∙ item_nil false) in absurd (cc)
 
-  items_once : (items others : List Item) → AllByRecursion ItemHasSpelling items → AllByRecursion (ItemIsAllowedAtPosition false) items → AllByRecursion ItemHasSpelling others → AllByRecursion (ItemIsAllowedAtPosition false) others
+  items_once : (items others : List Item) → AllByRecursion ItemCanBeSpelled items → AllByRecursion (ItemIsAllowedAtPosition false) items → AllByRecursion ItemCanBeSpelled others → AllByRecursion (ItemIsAllowedAtPosition false) others
       → flat_map item_spelling items ≡ flat_map item_spelling others → items ≡ others
   items_once [] [] f p g q e = refl
   items_once [] (k ∷ others) f p g q e = never_empty k (flat_map item_spelling others) g.0 q.0 (sym e)

@@ -13,13 +13,13 @@ use Rattle.proxy_engine.specs.EngineModel.{EngineModel, new_connection_model, mo
 use Rattle.proxy_engine.specs.Executions.{ExecutionStep, Worked}
 use Rattle.proxy_engine.specs.Reading.{failed_links}
 use Rattle.proxy_engine.specs.declared.work.End.{End}
-use Rattle.proxy_replay.specs.Played.{ActsAreDoneInOrder}
+use Rattle.proxy_replay.specs.Played.{FirstDueActsAreDoneInOrder}
 use Rattle.proxy_turn.specs.Calls.{Call, AcceptOutcome, Came, NoneCame, Failed}
-use Rattle.proxy_turn.specs.Turn.{HappeningIfAnyIsTaken, EndRead, ReadsAreTaken, EffectFate, Carried, Passed, Lost, EffectsAreCarriedOut, ActWithEffectFates, ActsAreCarriedOut, happening_of_read, calls_of_reads, calls_of_failed_forward, calls_of_effect, calls_of_effects, calls_of_rounds}
+use Rattle.proxy_turn.specs.Turn.{HappeningIfAnyIsTaken, EndRead, ReadsAreTaken, EffectFate, Carried, Passed, Lost, EffectsAreHandledWithFates, ActWithEffectFates, ActsAreDoneWithEffectFates, happening_of_read, calls_of_reads, calls_of_failed_forward, calls_of_effect, calls_of_effects, calls_of_rounds}
 use Rattle.proxy_turn.specs.TurnSteps.{step_of_happening_if_any, steps_of_reads, steps_of_lost_ends, steps_of_rounds}
 use Rattle.proxy_turn.specs.Over.{happening_of_accept_outcome, AcceptsAreTaken, calls_of_accepts}
-use Rattle.proxy_turn.specs.OverSteps.{steps_of_accepts, steps_of_turn_over_ends}
-use Rattle.proxy_turn_laws.specs.ActsOfATurn.{EffectDidNotFail, NoCallOfRoundsFailed, done_acts_of_rounds, RoundsAreActsInOrder}
+use Rattle.proxy_turn.specs.OverSteps.{steps_of_accepts, steps_of_turn_over_given_ends}
+use Rattle.proxy_turn_laws.specs.ActsOfATurn.{EffectDidNotFail, NoCallOfRoundsFailed, done_acts_of_rounds, RoundsWithoutFailureAreActsInOrder}
 use Rattle.proxy_record.specs.Recorded.{call_gave_something, AtMostOneCallGaveSomething, NoEffectCallFailed}
 use Rattle.proxy_record.specs.RecordedTurns.{happening_as_list, happenings_of_steps}
 use Rattle.proxy_record_laws.specs.OneThing.{AtMostOneHappeningIsTaken, ATurnTakesAtMostOneHappening, ATurnTakesNoSecondHappening}
@@ -137,7 +137,7 @@ fine_effect (effects.Close n) (Lost kind) h = true≢false h.0
 fine_effect (effects.Forward l address bytes) (Lost kind) h = fine_forward l address bytes kind h
 fine_effect (effects.Drop l) (Lost kind) h = true≢false h.0
 
-fine_effects : (es : List Effect) (fs : List EffectFate) (s : EngineModel) (gone : List End) (t : EngineModel) (more : List End) → EffectsAreCarriedOut s gone es fs t more → NoEffectCallFailed (calls_of_effects es fs) → AllByRecursion EffectDidNotFail fs
+fine_effects : (es : List Effect) (fs : List EffectFate) (s : EngineModel) (gone : List End) (t : EngineModel) (more : List End) → EffectsAreHandledWithFates s gone es fs t more → NoEffectCallFailed (calls_of_effects es fs) → AllByRecursion EffectDidNotFail fs
 fine_effects [] [] s gone t more out h = tt
 fine_effects [] (f ∷ fs) s gone t more out h = absurd out
 fine_effects (e ∷ es) [] s gone t more out h = absurd out
@@ -145,7 +145,7 @@ fine_effects (e ∷ es) (f ∷ fs) s gone t more out h =
     let both = none_failed_in_two (calls_of_effect e f) (calls_of_effects es fs) h in
     (fine_effect e f both.0, fine_effects es fs out.0 out.1 t more out.3 both.1)
 
-pub fine_rounds : (rs : List ActWithEffectFates) (now : ℕ) (s : EngineModel) (gone : List End) (t : EngineModel) (more : List End) → ActsAreCarriedOut now s gone rs t more → NoEffectCallFailed (calls_of_rounds rs) → NoCallOfRoundsFailed rs
+pub fine_rounds : (rs : List ActWithEffectFates) (now : ℕ) (s : EngineModel) (gone : List End) (t : EngineModel) (more : List End) → ActsAreDoneWithEffectFates now s gone rs t more → NoEffectCallFailed (calls_of_rounds rs) → NoCallOfRoundsFailed rs
 fine_rounds [] now s gone t more works h = tt
 fine_rounds (r ∷ rs) now s gone t more works h =
     let both = none_failed_in_two (calls_of_effects r.emitted r.fates) (calls_of_rounds rs) h in
@@ -219,19 +219,19 @@ took_rounds now (r ∷ rs) past fine =
 
 -- ---- the turn
 
-acts_behind : (taken later : Bool) (s read t : EngineModel) (now : ℕ) (hs : List Happening) (rs : List ActWithEffectFates) → Takes taken s hs read later → ActsAreDoneInOrder read now (done_acts_of_rounds rs) t → AtMostOneHappeningIsTaken taken s now hs (done_acts_of_rounds rs) t later
+acts_behind : (taken later : Bool) (s read t : EngineModel) (now : ℕ) (hs : List Happening) (rs : List ActWithEffectFates) → Takes taken s hs read later → FirstDueActsAreDoneInOrder read now (done_acts_of_rounds rs) t → AtMostOneHappeningIsTaken taken s now hs (done_acts_of_rounds rs) t later
 acts_behind taken later s read t now hs rs (inl a) works =
-    inl (record { none = a.0; later_is = a.2; works = subst (λ (m : EngineModel). ActsAreDoneInOrder m now (done_acts_of_rounds rs) t) a.1 works })
+    inl (record { none = a.0; later_is = a.2; works = subst (λ (m : EngineModel). FirstDueActsAreDoneInOrder m now (done_acts_of_rounds rs) t) a.1 works })
 acts_behind taken later s read t now hs rs (inr a) works = inr (record {
   happening = a.0;
   one = a.1;
   first = a.2;
   later_is = a.5;
   free = a.3;
-  works = subst (λ (m : EngineModel). ActsAreDoneInOrder m now (done_acts_of_rounds rs) t) a.4 works;
+  works = subst (λ (m : EngineModel). FirstDueActsAreDoneInOrder m now (done_acts_of_rounds rs) t) a.4 works;
 })
 
-pub turn_takes_one_thing : RoundsAreActsInOrder → ATurnTakesAtMostOneHappening
+pub turn_takes_one_thing : RoundsWithoutFailureAreActsInOrder → ATurnTakesAtMostOneHappening
 turn_takes_one_thing in_order now bounds s given accepts reads rest rounds t taken later turn whole some =
     let number = length s.connections + 1 in
     let asked = calls_of_accepts number accepts in
@@ -244,19 +244,19 @@ turn_takes_one_thing in_order now bounds s given accepts reads rest rounds t tak
     let came = accepts_take bounds.most_open accepts number taken first.0 s turn.begun refl turn.accepts_are first.1 in
     let gave = reads_take reads first.0 second.0 turn.begun turn.read turn.reads_are second.1 in
     let all = takes_joined taken first.0 second.0 s turn.begun turn.read (happenings_of_accepts number accepts) (happenings_of_reads reads) came gave in
-    let took : happenings_of_steps (steps_of_turn_over_ends now s accepts reads rounds []) ≡ happenings_of_accepts number accepts ++ happenings_of_reads reads =
+    let took : happenings_of_steps (steps_of_turn_over_given_ends now s accepts reads rounds []) ≡ happenings_of_accepts number accepts ++ happenings_of_reads reads =
     took_rounds now rounds (steps_of_reads reads (steps_of_accepts number accepts [])) fine
     ∙ (took_reads reads (steps_of_accepts number accepts []) ∙ ap (λ (hs : List Happening). hs ++ happenings_of_reads reads) (took_accepts accepts number [])) in
-    let works : ActsAreDoneInOrder turn.read now (done_acts_of_rounds rounds) t = (in_order now turn.read t (failed_links turn.read) turn.gone rounds fine turn.works).0 in
-    let here : Takes taken s (happenings_of_steps (steps_of_turn_over_ends now s accepts reads rounds [])) turn.read later =
+    let works : FirstDueActsAreDoneInOrder turn.read now (done_acts_of_rounds rounds) t = (in_order now turn.read t (failed_links turn.read) turn.gone rounds fine turn.works).0 in
+    let here : Takes taken s (happenings_of_steps (steps_of_turn_over_given_ends now s accepts reads rounds [])) turn.read later =
     subst (λ (hs : List Happening). Takes taken s hs turn.read later) (sym took)
     (subst (λ (b : Bool). Takes taken s (happenings_of_accepts number accepts ++ happenings_of_reads reads) turn.read b) (sym last) all) in
-    acts_behind taken later s turn.read t now (happenings_of_steps (steps_of_turn_over_ends now s accepts reads rounds [])) rounds here works
+    acts_behind taken later s turn.read t now (happenings_of_steps (steps_of_turn_over_given_ends now s accepts reads rounds [])) rounds here works
 
-pub turn_takes_no_second_thing : RoundsAreActsInOrder → ATurnTakesNoSecondHappening
+pub turn_takes_no_second_thing : RoundsWithoutFailureAreActsInOrder → ATurnTakesNoSecondHappening
 turn_takes_no_second_thing in_order now bounds s given accepts reads rest rounds t taken later one other more turn whole some =
     let happens = turn_takes_one_thing in_order now bounds s given accepts reads rest rounds t taken later turn whole some in
-    (no_second (happenings_of_steps (steps_of_turn_over_ends now s accepts reads rounds [])) happens, no_first (happenings_of_steps (steps_of_turn_over_ends now s accepts reads rounds [])) happens)
+    (no_second (happenings_of_steps (steps_of_turn_over_given_ends now s accepts reads rounds [])) happens, no_first (happenings_of_steps (steps_of_turn_over_given_ends now s accepts reads rounds [])) happens)
   where
     no_second : (hs : List Happening) → AtMostOneHappeningIsTaken taken s now hs (done_acts_of_rounds rounds) t later → hs ≢ one ∷ other ∷ more
     no_second hs (inl a) are = let none : ◌≡◌ {A = List Happening} [] (one ∷ other ∷ more) = sym a.none ∙ are in absurd (cc)

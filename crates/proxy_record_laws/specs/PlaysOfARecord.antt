@@ -10,17 +10,17 @@ use Rattle.hx_store.specs.Stored.{Stored}
 use Rattle.proxy_script.specs.Happenings.{HappeningModel as Happening}
 use Rattle.proxy_script.specs.declared.effect_list.Effect.{Effect}
 use Rattle.proxy_engine.specs.EngineModel.{EngineModel, model_after_happening, happening_fault}
-use Rattle.proxy_engine.specs.Due.{IsDueFirst}
+use Rattle.proxy_engine.specs.Due.{IsFirstDueAct}
 use Rattle.proxy_engine.specs.Executions.{ExecutionStep, Took, effects_of_steps}
 use Rattle.proxy_engine.specs.declared.work.End.{End}
-use Rattle.proxy_replay.specs.Played.{DoneActWithEffects, ActsAreDoneInOrder, effects_of_acts, PlayState}
-use Rattle.proxy_replay.specs.Played.{play_state_over}
+use Rattle.proxy_replay.specs.Played.{DoneActWithEffects, FirstDueActsAreDoneInOrder, effects_of_acts, PlayState}
+use Rattle.proxy_replay.specs.Played.{play_state_over_store}
 use Rattle.proxy_replay.specs.Played.{ItemsArePlayed}
 use Rattle.proxy_turn.specs.Calls.{AcceptOutcome}
 use Rattle.proxy_turn.specs.Turn.{EndRead, ActWithEffectFates}
-use Rattle.proxy_turn.specs.Over.{TurnOverEndsIsDoneInOrder, calls_of_turn_over_ends}
-use Rattle.proxy_turn.specs.OverSteps.{steps_of_turn_over_ends}
-use Rattle.proxy_turn.specs.declared.bounds.TurnBounds.{TurnBounds}
+use Rattle.proxy_turn.specs.Over.{TurnOverGivenEndsIsDoneInOrder, calls_of_turn_over_given_ends}
+use Rattle.proxy_turn.specs.OverSteps.{steps_of_turn_over_given_ends}
+use Rattle.proxy_turn.specs.declared.bounds.TurnAcceptBounds.{TurnAcceptBounds}
 use Rattle.proxy_record.specs.Recorded.{AtMostOneCallGaveSomething, NoEffectCallFailed}
 use Rattle.proxy_record.specs.RecordedTurns.{happenings_of_steps, recorded_at_moment}
 use Rattle.proxy_record.specs.Records.{RecordedHappening, items_of_recorded}
@@ -28,7 +28,7 @@ use Rattle.proxy_record.specs.Records.{RecordedHappening, items_of_recorded}
 -- nothing was noted, and nothing done, over a store that holds these responses, from this serial on
 abbrev pub NothingIsPlayedYet : Table → List Stored → ℕ → List RecordedHappening → List Effect → EngineModel → Type 0
 NothingIsPlayedYet table held serial all_noted effects last =
-    (all_noted ≡ []) × (effects ≡ []) × (last ≡ (play_state_over table held serial).model)
+    (all_noted ≡ []) × (effects ≡ []) × (last ≡ (play_state_over_store table held serial).model)
 
 -- Of what was noted all but the last was played, each with all that was then due. The last one was taken, and acts were
 -- done behind it, at its moment. This led to the model, with these effects; and where something is still due, `now` is
@@ -41,12 +41,12 @@ pub record LastHappeningIsBeingPlayed (table : Table) (held : List Stored) (seri
   pub noted_are : all_noted ≡ front ++ one ∷ []
   pub before : PlayState
   pub first : List Effect
-  pub plays : ItemsArePlayed (play_state_over table held serial) (items_of_recorded 0 front) first before
+  pub plays : ItemsArePlayed (play_state_over_store table held serial) (items_of_recorded 0 front) first before
   pub free : happening_fault before.model one.happening ≡ None
   pub done_acts : List DoneActWithEffects
-  pub works : ActsAreDoneInOrder (model_after_happening before.model one.happening) one.moment done_acts last
+  pub works : FirstDueActsAreDoneInOrder (model_after_happening before.model one.happening) one.moment done_acts last
   pub emitted : effects ≡ first ++ effects_of_acts done_acts
-  pub moment : IsDueFirst last None ⊎ (now ≡ one.moment)
+  pub moment : IsFirstDueAct last None ⊎ (now ≡ one.moment)
 
 abbrev pub NotedHappeningsArePlayedSoFar : Table → List Stored → ℕ → List RecordedHappening → List Effect → EngineModel
     → ℕ → Type 0
@@ -60,16 +60,18 @@ abbrev pub ATurnContinuesThePlay : Type 0
 ATurnContinuesThePlay =
     (table : Table) (held : List Stored) (serial : ℕ) (all_noted : List RecordedHappening)
     (steps : List ExecutionStep) (before now : ℕ)
-    (bounds : TurnBounds) (s : EngineModel) (given : List End) (accepts : List AcceptOutcome) (reads : List EndRead)
+    (bounds : TurnAcceptBounds) (s : EngineModel) (given : List End) (accepts : List AcceptOutcome)
+    (reads : List EndRead)
     (rest : List End) (rounds : List ActWithEffectFates) (t : EngineModel) (taken later : Bool)
     → NotedHappeningsArePlayedSoFar table held serial all_noted (effects_of_steps steps) s before
-    → (taken ≡ false → IsDueFirst s None) → (taken ≡ true → now ≡ before)
-    → TurnOverEndsIsDoneInOrder now bounds s given accepts reads rest rounds t
-    → NoEffectCallFailed (calls_of_turn_over_ends s accepts reads rounds)
-    → AtMostOneCallGaveSomething taken (calls_of_turn_over_ends s accepts reads rounds) later
+    → (taken ≡ false → IsFirstDueAct s None) → (taken ≡ true → now ≡ before)
+    → TurnOverGivenEndsIsDoneInOrder now bounds s given accepts reads rest rounds t
+    → NoEffectCallFailed (calls_of_turn_over_given_ends s accepts reads rounds)
+    → AtMostOneCallGaveSomething taken (calls_of_turn_over_given_ends s accepts reads rounds) later
     → NotedHappeningsArePlayedSoFar table held serial
-    (all_noted ++ recorded_at_moment now (happenings_of_steps (steps_of_turn_over_ends now s accepts reads rounds [])))
-    (effects_of_steps (steps_of_turn_over_ends now s accepts reads rounds steps)) t now
+    (all_noted ++ recorded_at_moment now
+    (happenings_of_steps (steps_of_turn_over_given_ends now s accepts reads rounds [])))
+    (effects_of_steps (steps_of_turn_over_given_ends now s accepts reads rounds steps)) t now
 
 -- So does an end that is lost where nothing is due.
 abbrev pub AnEndLossContinuesThePlay : Type 0
@@ -78,7 +80,7 @@ AnEndLossContinuesThePlay =
     (steps : List ExecutionStep) (before now : ℕ)
     (s : EngineModel) (h : Happening)
     → NotedHappeningsArePlayedSoFar table held serial all_noted (effects_of_steps steps) s before
-    → IsDueFirst s None → happening_fault s h ≡ None
+    → IsFirstDueAct s None → happening_fault s h ≡ None
     → NotedHappeningsArePlayedSoFar table held serial (all_noted
     ++ recorded_at_moment now (h ∷ [])) (effects_of_steps (Took h ∷ steps))
     (model_after_happening s h) now
@@ -90,5 +92,5 @@ AWholePlayExtendsThePlaySoFar =
     (effects all_effects : List Effect) (last : EngineModel)
     (now : ℕ) (end : PlayState)
     → NotedHappeningsArePlayedSoFar table held serial all_noted effects last now
-    → ItemsArePlayed (play_state_over table held serial) (items_of_recorded 0 all_noted) all_effects end
-    → (rest : List Effect) × (all_effects ≡ effects ++ rest) × (IsDueFirst last None → rest ≡ [])
+    → ItemsArePlayed (play_state_over_store table held serial) (items_of_recorded 0 all_noted) all_effects end
+    → (rest : List Effect) × (all_effects ≡ effects ++ rest) × (IsFirstDueAct last None → rest ≡ [])

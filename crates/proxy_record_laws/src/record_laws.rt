@@ -1,8 +1,9 @@
 //! Laws on what a server writes, and on what a replay of its record does.
-ghost use Rattle.proxy_record_laws.specs.LivesOfAServer.{AServerBegins, ANewServerBegins, ALifeIsAnExecution};
+ghost use Rattle.proxy_record_laws.specs.LivesOfAServer.{AServerBegins, NewServerBeginsRecordedLife};
+ghost use Rattle.proxy_record_laws.specs.LivesOfAServer.{ALifeIsAnExecution};
 ghost use Rattle.proxy_record_laws.specs.LivesOfAServer.{AServedTurnContinuesTheLife};
 ghost use Rattle.proxy_record_laws.specs.LivesOfAServer.{ATurnOutOfLinkNumbersContinuesTheLife};
-ghost use Rattle.proxy_record_laws.specs.LivesOfAServer.{ARecordedTurnWritesItsEffects};
+ghost use Rattle.proxy_record_laws.specs.LivesOfAServer.{ARecordedTurnSendsItsEffects};
 ghost use Rattle.proxy_record_laws.specs.LivesOfAServer.{ARecordReplaysWhatWasServed};
 ghost use Rattle.proxy_record_laws.specs.LivesOfAServer.{AnEndedRecordReplaysWhatWasServed};
 ghost use Rattle.proxy_record_laws.specs.MessagesOfAServer.{EachWriteOfAServerIsOneMessage};
@@ -19,8 +20,8 @@ use proxy_replay::laws::a_script_has_one_play;
 use proxy_script::laws::items_are_found_as_they_are_spelled;
 use proxy_turn::laws::{a_reachable_engine_stays_reachable, turns_execute_their_steps};
 use proxy_turn_laws::{
-    a_turn_does_its_acts_in_order, a_turn_writes_its_effects, each_write_of_a_turn_is_one_message,
-    replies_follow_requests,
+    a_turn_without_failure_does_acts_in_order, a_turn_writes_its_effects,
+    each_reply_answers_its_own_request, each_write_of_a_turn_is_one_message,
 };
 
 /// A turn of whose calls one thing at most is taken, and none failed, takes it first, and then does acts one after
@@ -29,7 +30,7 @@ pub fn a_turn_takes_at_most_one_happening()
     ensures turn { ATurnTakesAtMostOneHappening }
     ensures second { ATurnTakesNoSecondHappening }
 {
-    a_turn_does_its_acts_in_order();
+    a_turn_without_failure_does_acts_in_order();
 }
 
 /// The play of a record comes as far as the turns that were recorded, and the ends that were lost between them: all
@@ -38,7 +39,7 @@ pub fn a_record_is_played_as_far_as_its_turns()
     ensures turn { ATurnContinuesThePlay }
     ensures loss { AnEndLossContinuesThePlay }
 {
-    a_turn_does_its_acts_in_order();
+    a_turn_without_failure_does_acts_in_order();
     one_act_is_due_first();
     turns_execute_their_steps();
 }
@@ -53,11 +54,12 @@ pub fn a_whole_play_extends_the_play_so_far()
     an_act_is_done_in_one_way();
 }
 
-/// A server that `Server::new` makes is at the beginning of its life; each call of `serve_turn` that served a turn is
+/// A server that `Server::new` makes is at the beginning of its life; each call of `wait_and_serve_turn` that served a
+/// turn is
 /// one more turn of it; and what its engine has lived through are the steps of that life.
 pub fn a_server_lives_by_its_turns()
     ensures server { AServerBegins }
-    ensures begins { ANewServerBegins }
+    ensures begins { NewServerBeginsRecordedLife }
     ensures executed { ALifeIsAnExecution }
     ensures turn { AServedTurnContinuesTheLife }
     ensures spent { ATurnOutOfLinkNumbersContinuesTheLife }
@@ -67,8 +69,8 @@ pub fn a_server_lives_by_its_turns()
 
 /// While a record is written, each turn of its server writes the effects of its acts: each reply to its client and each
 /// request on its new link whole, once, in order, and nothing else. No call of them failed.
-pub fn a_recorded_turn_writes_its_effects()
-    ensures { ARecordedTurnWritesItsEffects }
+pub fn a_recorded_turn_sends_its_effects()
+    ensures { ARecordedTurnSendsItsEffects }
 {
     a_turn_writes_its_effects();
     what_a_turn_takes_is_recorded();
@@ -88,7 +90,7 @@ pub fn a_record_replays_what_was_served()
 {
     what_a_turn_takes_is_recorded();
     a_record_is_a_script();
-    a_turn_does_its_acts_in_order();
+    a_turn_without_failure_does_acts_in_order();
     turns_execute_their_steps();
     one_act_is_due_first();
     a_whole_play_extends_the_play_so_far();
@@ -114,6 +116,6 @@ pub fn each_write_of_a_server_is_one_message()
 pub fn replies_of_a_server_follow_requests()
     ensures { RepliesOfAServerFollowRequests }
 {
-    replies_follow_requests();
+    each_reply_answers_its_own_request();
     a_server_lives_by_its_turns();
 }

@@ -7,7 +7,7 @@ use Rattle.proxy_engine.specs.Happenings.{HappeningModel as Happening}
 use Rattle.proxy_engine.specs.EngineModel.{EngineModel, model_after_happening}
 use Rattle.proxy_engine.specs.Drops.{OnlyFirstEffectMayDropALink, ActHasFewEffects}
 use Rattle.proxy_engine.specs.Orderly.{ModelIsConsistent, EffectsNameOpenEnds, EndedEndsStayEnded, HappeningKeepsModelConsistent, ActKeepsModelConsistent, EndedEndsStayEndedAfterHappening, EndedEndsStayEndedAfterAct}
-use Rattle.proxy_replay.specs.Played.{DoneActWithEffects, ActsAreDoneInOrder, effects_of_acts, PlayState, ItemsArePlayed, HappeningIfAnyIsPlayed, happening_of_item}
+use Rattle.proxy_replay.specs.Played.{DoneActWithEffects, FirstDueActsAreDoneInOrder, effects_of_acts, PlayState, ItemsArePlayed, HappeningIfAnyIsPlayed, happening_of_item}
 use Rattle.proxy_replay.specs.Closes.{EffectsNeverName, NothingIsNamedAfterItsEnd}
 
 -- what an act in an orderly model keeps to
@@ -23,12 +23,12 @@ never_more of n (x ∷ xs) ys h k = (h.0, never_more of n xs ys h.1 k)
 
 -- the laws of the engine
 module _ (takes_order : HappeningKeepsModelConsistent) (acts_order : ActKeepsModelConsistent) (takes_stay : EndedEndsStayEndedAfterHappening) (acts_stay : EndedEndsStayEndedAfterAct) (acts_short : ActHasFewEffects) where
-  act : (s : EngineModel) (now : ℕ) (done_act : DoneActWithEffects) (done_acts : List DoneActWithEffects) (t : EngineModel) → (h : ActsAreDoneInOrder s now (done_act ∷ done_acts) t) → ModelIsConsistent s → IsAct s h.0 done_act.effects
+  act : (s : EngineModel) (now : ℕ) (done_act : DoneActWithEffects) (done_acts : List DoneActWithEffects) (t : EngineModel) → (h : FirstDueActsAreDoneInOrder s now (done_act ∷ done_acts) t) → ModelIsConsistent s → IsAct s h.0 done_act.effects
   act s now done_act done_acts t h o =
       let order = acts_order s now done_act.act done_act.effects h.0 o h.1 h.2 in
       record { orderly = order.0; names = order.1; stays = acts_stay s now done_act.act done_act.effects h.0 h.2; drops = (acts_short s now done_act.act done_act.effects h.0 h.2).1 }
 
-  pub works_orderly : (s : EngineModel) (now : ℕ) (done_acts : List DoneActWithEffects) (t : EngineModel) → ActsAreDoneInOrder s now done_acts t → ModelIsConsistent s → ModelIsConsistent t
+  pub works_orderly : (s : EngineModel) (now : ℕ) (done_acts : List DoneActWithEffects) (t : EngineModel) → FirstDueActsAreDoneInOrder s now done_acts t → ModelIsConsistent s → ModelIsConsistent t
   works_orderly s now [] t h o = subst ModelIsConsistent (sym h) o
   works_orderly s now (done_act ∷ done_acts) t h o = works_orderly h.0 now done_acts t h.3 (act s now done_act done_acts t h o).orderly
 
@@ -39,13 +39,13 @@ module _ (takes_order : HappeningKeepsModelConsistent) (acts_order : ActKeepsMod
   -- what an effect names, and when that is over
   module _ (of : Effect → Option ℕ) (Over : EngineModel → ℕ → Type 0) (later : (s t : EngineModel) (n : ℕ) → EndedEndsStayEnded s t → Over s n → Over t n)
       (unnamed : (s after : EngineModel) (emitted : List Effect) (n : ℕ) → IsAct s after emitted → Over s n → EffectsNeverName of n emitted) where
-    pub works_over : (s : EngineModel) (now : ℕ) (done_acts : List DoneActWithEffects) (t : EngineModel) (n : ℕ) → ActsAreDoneInOrder s now done_acts t → ModelIsConsistent s → Over s n → Over t n
+    pub works_over : (s : EngineModel) (now : ℕ) (done_acts : List DoneActWithEffects) (t : EngineModel) (n : ℕ) → FirstDueActsAreDoneInOrder s now done_acts t → ModelIsConsistent s → Over s n → Over t n
     works_over s now [] t n h o over = subst (λ (u : EngineModel). Over u n) (sym h) over
     works_over s now (done_act ∷ done_acts) t n h o over =
         let a = act s now done_act done_acts t h o in
         works_over h.0 now done_acts t n h.3 a.orderly (later s h.0 n a.stays over)
 
-    pub works_unnamed : (s : EngineModel) (now : ℕ) (done_acts : List DoneActWithEffects) (t : EngineModel) (n : ℕ) → ActsAreDoneInOrder s now done_acts t → ModelIsConsistent s → Over s n → EffectsNeverName of n (effects_of_acts done_acts)
+    pub works_unnamed : (s : EngineModel) (now : ℕ) (done_acts : List DoneActWithEffects) (t : EngineModel) (n : ℕ) → FirstDueActsAreDoneInOrder s now done_acts t → ModelIsConsistent s → Over s n → EffectsNeverName of n (effects_of_acts done_acts)
     works_unnamed s now [] t n h o over = tt
     works_unnamed s now (done_act ∷ done_acts) t n h o over =
         let a = act s now done_act done_acts t h o in
@@ -73,7 +73,7 @@ module _ (takes_order : HappeningKeepsModelConsistent) (acts_order : ActKeepsMod
     -- what ends it, and what is told behind that
     module _ (ends : Effect → Option ℕ)
         (act_ends : (s after : EngineModel) (emitted rest : List Effect) → IsAct s after emitted → ((n : ℕ) → Over after n → EffectsNeverName of n rest) → NothingIsNamedAfterItsEnd ends of rest → NothingIsNamedAfterItsEnd ends of (emitted ++ rest)) where
-      works_end : (s : EngineModel) (now : ℕ) (done_acts : List DoneActWithEffects) (t : EngineModel) (rest : List Effect) → ActsAreDoneInOrder s now done_acts t → ModelIsConsistent s → ((n : ℕ) → Over t n → EffectsNeverName of n rest) → NothingIsNamedAfterItsEnd ends of rest →
+      works_end : (s : EngineModel) (now : ℕ) (done_acts : List DoneActWithEffects) (t : EngineModel) (rest : List Effect) → FirstDueActsAreDoneInOrder s now done_acts t → ModelIsConsistent s → ((n : ℕ) → Over t n → EffectsNeverName of n rest) → NothingIsNamedAfterItsEnd ends of rest →
           NothingIsNamedAfterItsEnd ends of (effects_of_acts done_acts ++ rest)
       works_end s now [] t rest h o behind ending = ending
       works_end s now (done_act ∷ done_acts) t rest h o behind ending =

@@ -1,21 +1,21 @@
 -- What stands at the front of a script's bytes: an item, or none; and how the table is read.
 use Rattle.std.proofs.Common.{◌≡◌, ◌≢◌, ℕ, ◌<◌, ◌==◌, List, [], ◌∷◌, length, refl, ap, sym, ◌∙◌, subst, Bool, true, false, Result, Ok, Err, arith}
 use Rattle.std.proofs.lemmas.List.{length-append}
-use Rattle.hx_fields.specs.declared.limits.TheConstants.{END_OF_TIME}
+use Rattle.hx_fields.specs.declared.limits.TheConstants.{START_OF_YEAR_10000}
 use Rattle.hx_allow.specs.TableLines.{Table}
 use Rattle.hx_allow.specs.Tables.{BytesReadAsTable}
-use Rattle.hx_allow.specs.declared.config_faults.ConfigFault.{ConfigFault}
-use Rattle.hx_allow.specs.declared.config_faults.ConfigFault.TheVariants as config
-use Rattle.proxy_store_file.specs.declared.store_faults.StoreFault.{StoreFault}
-use Rattle.proxy_store_file.specs.declared.store_faults.StoreFault.TheVariants as store
+use Rattle.hx_allow.specs.declared.config_faults.TableFault.{TableFault}
+use Rattle.hx_allow.specs.declared.config_faults.TableFault.TheVariants as config
+use Rattle.proxy_store_file.specs.declared.store_faults.StoreReadFault.{StoreReadFault}
+use Rattle.proxy_store_file.specs.declared.store_faults.StoreReadFault.TheVariants as store
 use Rattle.proxy_store_file.specs.Stores.{StoreReading}
 use Rattle.proxy_script.specs.ScriptLines.{is_config, line_text}
-use Rattle.proxy_script.specs.Script.{ItemModel as Item, item_spelling, line_of_item, block_of_item, ItemHasSpelling, ItemIsAllowedAtPosition, ItemReading, Found, Cut, Wrong, leading_item}
+use Rattle.proxy_script.specs.Script.{ItemModel as Item, item_spelling, line_of_item, block_of_item, ItemCanBeSpelled, ItemIsAllowedAtPosition, ItemReading, Found, Cut, Wrong, leading_item}
 use Rattle.proxy_script.specs.Script as item
 use Rattle.proxy_script.proofs.ItemLaws.{item_found, item_again}
 use Rattle.proxy_replay.specs.Played.{moment_after_item}
 use Rattle.proxy_replay.specs.Replay.{BytesBeginWithItem, NoItemIsReadAtFront, ReplayEndsAtItemBoundary, ReplayFails}
-use Rattle.proxy_replay.specs.Steps.{replay_fault_of_config_fault, replay_fault_of_store_fault, TableIsReadFirst, TableIsNotRead, EngineBeginningFails}
+use Rattle.proxy_replay.specs.Steps.{replay_fault_of_table_fault, replay_fault_of_store_fault, TableIsReadFirst, TableIsNotRead, EngineBeginningFails}
 use Rattle.proxy_replay.specs.declared.replay_fault.ReplayFault.{ReplayFault}
 use Rattle.proxy_replay.specs.declared.replay_fault.ReplayFault.TheVariants as faults
 
@@ -59,11 +59,11 @@ opens_by bytes rest text h table found is reads = record {
 pub ends_first : (Opens : Table → StoreReading → Type 0) (P : Bool → List ℕ → ℕ → Type 0) (bytes : List ℕ) → P true bytes 1 → ReplayEndsAtItemBoundary Opens bytes [] P
 ends_first Opens P bytes holds = record { first = true; rest = bytes; line = 1; effects = []; reaches = (refl, refl, refl); emitted = refl; holds = holds }
 
-refused_with : (bytes rest text : List ℕ) (ended : Bool) (fault : ConfigFault) → BytesBeginWithItem true bytes (item.Table text) rest → ((◌≢◌ {A = Result Table ConfigFault} (Err fault) (Err config.OutOfMemory)) → BytesReadAsTable text (Err fault)) → TableIsNotRead bytes ended (replay_fault_of_config_fault fault)
+refused_with : (bytes rest text : List ℕ) (ended : Bool) (fault : TableFault) → BytesBeginWithItem true bytes (item.Table text) rest → ((◌≢◌ {A = Result Table TableFault} (Err fault) (Err config.OutOfMemory)) → BytesReadAsTable text (Err fault)) → TableIsNotRead bytes ended (replay_fault_of_table_fault fault)
 refused_with bytes rest text ended config.OutOfMemory represents reads = tt
 refused_with bytes rest text ended fault represents reads = (text, rest, represents, reads (λ e. cc))
 
-pub refused_by : (bytes rest text : List ℕ) (ended : Bool) (h : Item) (fault : ConfigFault) → Found h rest ≡ leading_item true bytes → h ≡ item.Table text → ((◌≢◌ {A = Result Table ConfigFault} (Err fault) (Err config.OutOfMemory)) → BytesReadAsTable text (Err fault)) → TableIsNotRead bytes ended (replay_fault_of_config_fault fault)
+pub refused_by : (bytes rest text : List ℕ) (ended : Bool) (h : Item) (fault : TableFault) → Found h rest ≡ leading_item true bytes → h ≡ item.Table text → ((◌≢◌ {A = Result Table TableFault} (Err fault) (Err config.OutOfMemory)) → BytesReadAsTable text (Err fault)) → TableIsNotRead bytes ended (replay_fault_of_table_fault fault)
 refused_by bytes rest text ended h fault found is reads =
     refused_with bytes rest text ended fault (subst (λ h. BytesBeginWithItem true bytes h rest) is (item_found true bytes rest h (sym found))) reads
 
@@ -82,11 +82,11 @@ pub other_by : (bytes rest : List ℕ) (h : Item) → Found h rest ≡ leading_i
 other_by bytes rest h found other = let placed = item_found true bytes rest h (sym found) in let same : true ≡ false = sym placed.2 ∙ other in cc
 
 -- the moment stays below the end of moments
-pub moment_fits : (now : ℕ) (h : Item) → now < END_OF_TIME → ItemHasSpelling h → moment_after_item now h < END_OF_TIME
+pub moment_fits : (now : ℕ) (h : Item) → now < START_OF_YEAR_10000 → ItemCanBeSpelled h → moment_after_item now h < START_OF_YEAR_10000
 moment_fits now (item.Moment m) before fits = fits
 moment_fits now h before fits = before
 
 -- a replay whose store is refused
-pub store_refused : (Opens : Table → StoreReading → Type 0) (table : Table) (fault : StoreFault) → Opens table (Err fault) → EngineBeginningFails Opens table (replay_fault_of_store_fault fault)
+pub store_refused : (Opens : Table → StoreReading → Type 0) (table : Table) (fault : StoreReadFault) → Opens table (Err fault) → EngineBeginningFails Opens table (replay_fault_of_store_fault fault)
 store_refused Opens table store.OutOfMemory refused = λ bytes rest ended opens. ends_first Opens _ bytes tt
 store_refused Opens table fault refused = λ bytes rest ended opens. (opens.text, rest, table, opens.represents, opens.reads, refused, refl)

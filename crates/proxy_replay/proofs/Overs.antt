@@ -10,11 +10,11 @@ use Rattle.proxy_script.specs.declared.effect_list.Effect.{Effect}
 use Rattle.proxy_script.specs.declared.effect_list.Effect.TheVariants as effects
 use Rattle.proxy_engine.specs.Happenings.{HappeningModel as Happening, Leaves}
 use Rattle.proxy_engine.specs.Happenings as happening
-use Rattle.proxy_engine.specs.EngineModel.{EngineModel, ConnectionModel, LinkModel, model_after_happening, connection_at, link_at, no_connection, no_link, connection_after_disconnect, connection_fault, happening_fault}
+use Rattle.proxy_engine.specs.EngineModel.{EngineModel, ConnectionModel, LinkModel, model_after_happening, connection_at, link_at, no_connection, no_link, connection_after_disconnect, fault_of_unknown_connection, happening_fault}
 use Rattle.proxy_engine.specs.Acts.{next_link_number}
 use Rattle.proxy_engine.specs.Drops.{link_dropped_by_effect, EffectsDropNoLink, ActHasFewEffects, EachDroppedLinkIsEmitted, HappeningsDropNoLink}
 use Rattle.proxy_engine.specs.Orderly.{ModelIsConsistent, ConnectionIsOpen, ConnectionHasClosed, LinkIsDropped, EffectsNameOpenEnds, EndedEndsStayEnded, HappeningKeepsModelConsistent, ActKeepsModelConsistent, EndedEndsStayEndedAfterHappening, EndedEndsStayEndedAfterAct}
-use Rattle.proxy_replay.specs.Played.{DoneActWithEffects, ActsAreDoneInOrder, effects_of_acts, PlayState, ItemsArePlayed, HappeningIfAnyIsPlayed, happening_of_item}
+use Rattle.proxy_replay.specs.Played.{DoneActWithEffects, FirstDueActsAreDoneInOrder, effects_of_acts, PlayState, ItemsArePlayed, HappeningIfAnyIsPlayed, happening_of_item}
 use Rattle.proxy_replay.specs.Closes.{client_named_by_effect, link_named_by_effect, client_closed_by_effect, EffectsNeverName, NothingIsNamedAfterItsEnd, EffectsDropLink}
 use Rattle.proxy_replay.proofs.Behind.{IsAct, item_orderly, works_over, works_unnamed, plays_unnamed, plays_end}
 
@@ -83,7 +83,7 @@ close_ends s after (effects.Close m ∷ emitted) rest h stays behind ending =
 close_ends s after (effects.Drop l ∷ emitted) rest h stays behind ending = (tt, close_ends s after emitted rest h.1 stays behind ending)
 
 -- the connection that goes away was accepted
-taken_place : (count n : ℕ) → connection_fault count n ≡ None → (n ≡ (n - 1) + 1) × ((n - 1) < count)
+taken_place : (count n : ℕ) → fault_of_unknown_connection count n ≡ None → (n ≡ (n - 1) + 1) × ((n - 1) < count)
 taken_place count n h = by_test (cases_Bool (nat_lt 0 n && nat_le n count))
   where
     by_test : ((nat_lt 0 n && nat_le n count) ≡ true) ⊎ ((nat_lt 0 n && nat_le n count) ≡ false) → (n ≡ (n - 1) + 1) × ((n - 1) < count)
@@ -306,7 +306,7 @@ module _ (takes_stay : EndedEndsStayEndedAfterHappening) (acts_stay : EndedEndsS
     writes : Writes s t emitted
     first : t.first ≡ s.first
 
-  numbered_works : (done_acts : List DoneActWithEffects) (s : EngineModel) (now : ℕ) (t : EngineModel) → ActsAreDoneInOrder s now done_acts t → Numbered s t (effects_of_acts done_acts)
+  numbered_works : (done_acts : List DoneActWithEffects) (s : EngineModel) (now : ℕ) (t : EngineModel) → FirstDueActsAreDoneInOrder s now done_acts t → Numbered s t (effects_of_acts done_acts)
   numbered_works [] s now t h = record { writes = λ j d. inl (subst (λ (u : EngineModel). IsLost u j) h d); first = ap (λ (u : EngineModel). u.first) h }
   numbered_works (done_act ∷ done_acts) s now t h =
       let rest = numbered_works done_acts h.0 now t h.3 in

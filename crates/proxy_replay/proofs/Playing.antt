@@ -7,7 +7,7 @@ use Rattle.std.proofs.lemmas.Grind.{flat_map-append}
 use Rattle.std.proofs.lemmas.List.{append-nil, length_push, take_at, drop_at}
 use Rattle.hx_allow.specs.TableLines.{Table}
 use Rattle.hx_store.specs.Stored.{Stored}
-use Rattle.proxy_script.specs.Script.{ItemModel as Item, item_spelling, ItemHasSpelling, ItemIsAllowedAtPosition, IsScript, Found, Cut, Wrong, leading_item}
+use Rattle.proxy_script.specs.Script.{ItemModel as Item, item_spelling, ItemCanBeSpelled, ItemIsAllowedAtPosition, IsScript, Found, Cut, Wrong, leading_item}
 use Rattle.proxy_script.specs.Script as item
 use Rattle.proxy_script.specs.Effects.{effect_text, effects_text}
 use Rattle.proxy_script.specs.declared.effect_list.Effect.{Effect}
@@ -16,10 +16,10 @@ use Rattle.proxy_store_file.specs.Streams.{store_contents_of}
 use Rattle.proxy_engine.specs.Beginnings.{ResponsesMayBeHeldAtStart}
 use Rattle.proxy_engine.specs.State.{State, EngineRepresents}
 use Rattle.proxy_replay.specs.Bytes.{ReaderGaveAtMost, script_limit}
-use Rattle.proxy_replay.specs.Played.{PlayState, play_state_over, happening_of_item, moment_after_item, ItemIsPlayed, ItemsArePlayed, EngineRefusesHappening}
+use Rattle.proxy_replay.specs.Played.{PlayState, play_state_over_store, happening_of_item, moment_after_item, ItemIsPlayed, ItemsArePlayed, EngineFailsAtHappening}
 use Rattle.proxy_replay.specs.Runs.{PlayIsAGoodRunOverAStore}
 use Rattle.proxy_replay.proofs.Running.{plays_run}
-use Rattle.proxy_replay.specs.Replay.{BytesBeginWithItem, NoItemIsReadAtFront, OpensEmptyStore, ScriptBytesLeadToState, ScriptBytesLeadToStateWhere, ReplayEndsAtItemBoundary, ReplayFails, ReplayWrites, IsReplayOverAStore, IsReplayOverEmptyStore, IsReplayedOverEmptyStore, ScriptIsRefused}
+use Rattle.proxy_replay.specs.Replay.{BytesBeginWithItem, NoItemIsReadAtFront, OpensEmptyStore, ScriptBytesLeadToState, ScriptBytesLeadToStateWhere, ReplayEndsAtItemBoundary, ReplayFails, ReplayWritesAndEnds, ReplayOverAStoreReadsAndEnds, IsStreamReplayOverEmptyStore, IsReplayedOverEmptyStore, ScriptReplayFails}
 use Rattle.proxy_replay.specs.Steps.{TableIsReadFirst, ItemWasPlayedAndWritten, ItemWasNotPlayed, PlayingItemFails}
 use Rattle.proxy_replay.specs.declared.replay_fault.ReplayFault.{ReplayFault}
 use Rattle.proxy_replay.specs.declared.replay_fault.ReplayFault.TheVariants as faults
@@ -43,20 +43,20 @@ all_push : (P : Item → Type 0) (items : List Item) (h : Item) → AllByRecursi
 all_push P [] h all one = (one, tt)
 all_push P (first ∷ items) h all one = (all.0, all_push P items h all.1 one)
 
-script_more : (front table : List ℕ) (items : List Item) (h : Item) → IsScript front table items → ItemHasSpelling h → ItemIsAllowedAtPosition false h → IsScript (front ++ item_spelling h) table (items ++ h ∷ [])
+script_more : (front table : List ℕ) (items : List Item) (h : Item) → IsScript front table items → ItemCanBeSpelled h → ItemIsAllowedAtPosition false h → IsScript (front ++ item_spelling h) table (items ++ h ∷ [])
 script_more front table items h script fits placed = record {
   script = ap (λ xs. xs ++ item_spelling h) script.script
       ∙ (append_assoc (item_spelling (item.Table table)) (flat_map item_spelling items) (item_spelling h)
       ∙ ap (λ xs. item_spelling (item.Table table) ++ xs) (ap (λ xs. flat_map item_spelling items ++ xs) (sym (append-nil (item_spelling h))) ∙ sym (flat_map-append item_spelling items (h ∷ []))));
   table_fits = script.table_fits;
-  items_fit = all_push ItemHasSpelling items h script.items_fit fits;
+  items_fit = all_push ItemCanBeSpelled items h script.items_fit fits;
   one_table = all_push (ItemIsAllowedAtPosition false) items h script.one_table placed;
 }
 
 -- over a store that opens so
 module _ (Opens : Table → StoreReading → Type 0) where
   leads_more : (bytes rest more : List ℕ) (items : List Item) (h : Item) (effects others : List Effect) (b c : PlayState) → ScriptBytesLeadToState Opens bytes items rest effects b → BytesBeginWithItem false rest h more → ItemIsPlayed b h others c → ScriptBytesLeadToState Opens bytes (items ++ h ∷ []) more (effects ++ others) c
-  leads_more bytes rest more items h effects others b c leads represents one = let longer = plays_more items (play_state_over leads.config leads.held leads.first) b c effects others h leads.plays one in record {
+  leads_more bytes rest more items h effects others b c leads represents one = let longer = plays_more items (play_state_over_store leads.config leads.held leads.first) b c effects others h leads.plays one in record {
     front = leads.front ++ item_spelling h;
     bytes_are = leads.bytes_are ∙ (ap (λ xs. leads.front ++ xs) represents.0 ∙ sym (append_assoc leads.front (item_spelling h) more));
     table = leads.table;
@@ -82,12 +82,12 @@ module _ (Opens : Table → StoreReading → Type 0) where
     pub represents : EngineRepresents e last.model
     pub appends : Appends old current (effects_text effects)
 
-  pub so_far_first : (bytes rest : List ℕ) (table : Table) (held : List Stored) (first : ℕ) (e : State) (old : Option (List ℕ)) → TableIsReadFirst bytes table rest → Opens table (Ok (store_contents_of held first)) → ResponsesMayBeHeldAtStart table held first → EngineRepresents e (play_state_over table held first).model →
+  pub so_far_first : (bytes rest : List ℕ) (table : Table) (held : List Stored) (first : ℕ) (e : State) (old : Option (List ℕ)) → TableIsReadFirst bytes table rest → Opens table (Ok (store_contents_of held first)) → ResponsesMayBeHeldAtStart table held first → EngineRepresents e (play_state_over_store table held first).model →
       SoFar bytes rest 0 2 e old old
   so_far_first bytes rest table held first e old opens opened may represents = record {
     items = [];
     effects = [];
-    last = play_state_over table held first;
+    last = play_state_over_store table held first;
     leads = record {
       front = item_spelling (item.Table opens.text);
       bytes_are = opens.represents.0;
@@ -100,7 +100,7 @@ module _ (Opens : Table → StoreReading → Type 0) where
       opens = opened;
       may = may;
       plays = (refl, refl);
-      run = plays_run table held first [] [] (play_state_over table held first) may (refl, refl);
+      run = plays_run table held first [] [] (play_state_over_store table held first) may (refl, refl);
     };
     moment = refl;
     line_is = refl;
@@ -142,11 +142,11 @@ module _ (Opens : Table → StoreReading → Type 0) where
   }
 
   -- in front of the table
-  pub writes_first : (bytes : List ℕ) (ended : Bool) (fault : ReplayFault) (old : Option (List ℕ)) → ReplayFails Opens bytes ended [] fault → ReplayWrites Opens bytes ended old old (Err fault)
+  pub writes_first : (bytes : List ℕ) (ended : Bool) (fault : ReplayFault) (old : Option (List ℕ)) → ReplayFails Opens bytes ended [] fault → ReplayWritesAndEnds Opens bytes ended old old (Err fault)
   writes_first bytes ended fault old fails = record { written = []; appends = Appends-nil old; replays = fails }
 
   -- at a line or a block that is wrong
-  pub writes_wrong : (bytes rest : List ℕ) (ended : Bool) (now line : ℕ) (e : State) (old current : Option (List ℕ)) → SoFar bytes rest now line e old current → NoItemIsReadAtFront false ended rest → ReplayWrites Opens bytes ended old current (Err (faults.Line line))
+  pub writes_wrong : (bytes rest : List ℕ) (ended : Bool) (now line : ℕ) (e : State) (old current : Option (List ℕ)) → SoFar bytes rest now line e old current → NoItemIsReadAtFront false ended rest → ReplayWritesAndEnds Opens bytes ended old current (Err (faults.Line line))
   writes_wrong bytes rest ended now line e old current before wrong = record {
     written = effects_text before.effects;
     appends = before.appends;
@@ -154,7 +154,7 @@ module _ (Opens : Table → StoreReading → Type 0) where
   }
 
   -- where the reader failed in the middle of an item
-  pub writes_cut : (bytes rest : List ℕ) (ended : Bool) (now line : ℕ) (e : State) (old current : Option (List ℕ)) → SoFar bytes rest now line e old current → ended ≡ false → leading_item false rest ≡ Cut → ReplayWrites Opens bytes ended old current (Err faults.Read)
+  pub writes_cut : (bytes rest : List ℕ) (ended : Bool) (now line : ℕ) (e : State) (old current : Option (List ℕ)) → SoFar bytes rest now line e old current → ended ≡ false → leading_item false rest ≡ Cut → ReplayWritesAndEnds Opens bytes ended old current (Err faults.Read)
   writes_cut bytes rest ended now line e old current before more cut = record {
     written = effects_text before.effects;
     appends = before.appends;
@@ -162,7 +162,7 @@ module _ (Opens : Table → StoreReading → Type 0) where
   }
 
   -- at the script's end
-  pub writes_whole : (bytes rest : List ℕ) (ended : Bool) (now line : ℕ) (e : State) (old current : Option (List ℕ)) → SoFar bytes rest now line e old current → ended ≡ true → rest ≡ [] → ReplayWrites Opens bytes ended old current (Ok tt)
+  pub writes_whole : (bytes rest : List ℕ) (ended : Bool) (now line : ℕ) (e : State) (old current : Option (List ℕ)) → SoFar bytes rest now line e old current → ended ≡ true → rest ≡ [] → ReplayWritesAndEnds Opens bytes ended old current (Ok tt)
   writes_whole bytes rest ended now line e old current before whole none = record {
     written = effects_text before.effects;
     appends = before.appends;
@@ -179,7 +179,7 @@ module _ (Opens : Table → StoreReading → Type 0) where
         h,
         more,
         represents,
-        (fails.0, fails.1, subst (λ m. EngineRefusesHappening before.last.model (moment_after_item m h) fails.0 fault) (sym before.moment) fails.2),
+        (fails.0, fails.1, subst (λ m. EngineFailsAtHappening before.last.model (moment_after_item m h) fails.0 fault) (sym before.moment) fails.2),
         ap (λ w. effects_text before.effects ++ w) fails.3 ∙ append-nil (effects_text before.effects),
       )
   fails_by bytes rest more h ended now line e old mid written faults.OutOfMemory before represents fails =
@@ -201,7 +201,7 @@ module _ (Opens : Table → StoreReading → Type 0) where
   fails_by bytes rest more h ended now line e old mid written faults.Read before represents fails = absurd fails
   fails_by bytes rest more h ended now line e old mid written (faults.Store fault) before represents fails = absurd fails
 
-  pub writes_not_done : (bytes rest more : List ℕ) (h : Item) (ended : Bool) (now line : ℕ) (e : State) (old mid new : Option (List ℕ)) (fault : ReplayFault) → (before : SoFar bytes rest now line e old mid) → BytesBeginWithItem false rest h more → ItemWasNotPlayed before.last.model (moment_after_item now h) (happening_of_item h) fault mid new → ReplayWrites Opens bytes ended old new (Err fault)
+  pub writes_not_done : (bytes rest more : List ℕ) (h : Item) (ended : Bool) (now line : ℕ) (e : State) (old mid new : Option (List ℕ)) (fault : ReplayFault) → (before : SoFar bytes rest now line e old mid) → BytesBeginWithItem false rest h more → ItemWasNotPlayed before.last.model (moment_after_item now h) (happening_of_item h) fault mid new → ReplayWritesAndEnds Opens bytes ended old new (Err fault)
   writes_not_done bytes rest more h ended now line e old mid new fault before represents not_done = record {
     written = effects_text before.effects ++ not_done.written;
     appends = Appends-trans old mid new (effects_text before.effects) not_done.written before.appends not_done.appends;
@@ -211,7 +211,7 @@ module _ (Opens : Table → StoreReading → Type 0) where
   -- the whole
 
   -- memory ran out while the script was read
-  pub ends_unread : (old new before : Option (List ℕ)) (read : List ℕ) → Consumes old new read → IsReplayOverAStore Opens old new before before (Err faults.OutOfMemory)
+  pub ends_unread : (old new before : Option (List ℕ)) (read : List ℕ) → Consumes old new read → ReplayOverAStoreReadsAndEnds Opens old new before before (Err faults.OutOfMemory)
   ends_unread old new before read consumes = record {
     bytes = [];
     over = read;
@@ -223,7 +223,7 @@ module _ (Opens : Table → StoreReading → Type 0) where
     writes = writes_first [] false faults.OutOfMemory before (ends_first Opens _ [] tt);
   }
 
-  pub ends_read : (bytes : List ℕ) (ended : Bool) (old new before after : Option (List ℕ)) (r : Result (Unit {0}) ReplayFault) → ReaderGaveAtMost script_limit bytes ended old new → ReplayWrites Opens bytes ended before after r → IsReplayOverAStore Opens old new before after r
+  pub ends_read : (bytes : List ℕ) (ended : Bool) (old new before after : Option (List ℕ)) (r : Result (Unit {0}) ReplayFault) → ReaderGaveAtMost script_limit bytes ended old new → ReplayWritesAndEnds Opens bytes ended before after r → ReplayOverAStoreReadsAndEnds Opens old new before after r
   ends_read bytes ended old new before after r was writes = record {
     bytes = bytes;
     over = was.over;
@@ -245,11 +245,11 @@ abbrev serial_of : StoreReading → ℕ
 serial_of (Ok store) = store.next_serial
 serial_of (Err fault) = 0
 
-pub begins_empty : (table : Table) (items : List Item) (effects : List Effect) (last : PlayState) (held : List Stored) (first : ℕ) → OpensEmptyStore table (Ok (store_contents_of held first)) → ItemsArePlayed (play_state_over table held first) items effects last →
-    ItemsArePlayed (play_state_over table [] 1) items effects last
+pub begins_empty : (table : Table) (items : List Item) (effects : List Effect) (last : PlayState) (held : List Stored) (first : ℕ) → OpensEmptyStore table (Ok (store_contents_of held first)) → ItemsArePlayed (play_state_over_store table held first) items effects last →
+    ItemsArePlayed (play_state_over_store table [] 1) items effects last
 begins_empty table items effects last held first opens plays =
-    subst (λ (n : ℕ). ItemsArePlayed (play_state_over table [] n) items effects last) (ap serial_of opens)
-    (subst (λ (es : List Stored). ItemsArePlayed (play_state_over table es first) items effects last) (ap entries_of opens) plays)
+    subst (λ (n : ℕ). ItemsArePlayed (play_state_over_store table [] n) items effects last) (ap serial_of opens)
+    (subst (λ (es : List Stored). ItemsArePlayed (play_state_over_store table es first) items effects last) (ap entries_of opens) plays)
 
 pub runs_empty : (table : Table) (items : List Item) (effects : List Effect) (last : PlayState) (held : List Stored) (first : ℕ) → OpensEmptyStore table (Ok (store_contents_of held first)) → PlayIsAGoodRunOverAStore table held first items effects last →
     PlayIsAGoodRunOverAStore table [] 1 items effects last
@@ -258,7 +258,7 @@ runs_empty table items effects last held first opens run =
     (subst (λ (es : List Stored). PlayIsAGoodRunOverAStore table es first items effects last) (ap entries_of opens) run)
 
 -- over memory
-pub replayed_by : (script rest before text : List ℕ) → before ≡ [] → IsReplayOverEmptyStore (Some script) (Some rest) (Some before) (Some text) (Ok tt) → IsReplayedOverEmptyStore script text
+pub replayed_by : (script rest before text : List ℕ) → before ≡ [] → IsStreamReplayOverEmptyStore (Some script) (Some rest) (Some before) (Some text) (Ok tt) → IsReplayedOverEmptyStore script text
 replayed_by script rest before text none replay =
     let led = replay.writes.replays.1 in
     let whole = replay.whole replay.writes.replays.0 in
@@ -279,7 +279,7 @@ replayed_by script rest before text none replay =
       emitted = replay.writes.appends ∙ (ap (λ xs. xs ++ replay.writes.written) none ∙ led.holds.1);
     }
 
-pub refused_by : (script rest before text : List ℕ) (fault : ReplayFault) → IsReplayOverEmptyStore (Some script) (Some rest) (Some before) (Some text) (Err fault) → ScriptIsRefused script fault
+pub refused_by : (script rest before text : List ℕ) (fault : ReplayFault) → IsStreamReplayOverEmptyStore (Some script) (Some rest) (Some before) (Some text) (Err fault) → ScriptReplayFails script fault
 refused_by script rest before text fault replay = record {
   bytes = replay.bytes;
   more = replay.over ++ rest;

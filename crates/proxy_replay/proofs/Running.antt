@@ -12,7 +12,7 @@ use Rattle.proxy_engine.specs.Happenings.{HappeningModel as Happening}
 use Rattle.proxy_engine.specs.EngineModel.{EngineModel, model_after_happening}
 use Rattle.proxy_engine.specs.Executions.{ExecutionStep, Took, Worked, StepsLeadToModel, effects_of_steps}
 use Rattle.proxy_engine.proofs.Living.{core_steps_of_executions_are_good_runs}
-use Rattle.proxy_replay.specs.Played.{DoneActWithEffects, ActsAreDoneInOrder, effects_of_acts, PlayState, play_state_over, ItemsArePlayed, HappeningIfAnyIsPlayed, happening_of_item}
+use Rattle.proxy_replay.specs.Played.{DoneActWithEffects, FirstDueActsAreDoneInOrder, effects_of_acts, PlayState, play_state_over_store, ItemsArePlayed, HappeningIfAnyIsPlayed, happening_of_item}
 use Rattle.proxy_replay.specs.Runs.{steps_of_acts, StepsFollowItem, StepsFollowItems, PlayIsAGoodRunOverAStore}
 
 module _ (begin : EngineModel) where
@@ -24,7 +24,7 @@ module _ (begin : EngineModel) where
   same_end : (steps : List ExecutionStep) (s t : EngineModel) (emitted more : List Effect) → t ≡ s → more ≡ emitted → Executed steps s emitted → Executed steps t more
   same_end steps s t emitted more e m h = record { executes = subst (λ (u : EngineModel). StepsLeadToModel begin steps u) (sym e) h.executes; emitted_is = h.emitted_is ∙ sym m }
 
-  works : (steps : List ExecutionStep) (s : EngineModel) (now : ℕ) (done_acts : List DoneActWithEffects) (t : EngineModel) (emitted : List Effect) → ActsAreDoneInOrder s now done_acts t → Executed steps s emitted → Executed (steps_of_acts now done_acts steps) t (emitted ++ effects_of_acts done_acts)
+  works : (steps : List ExecutionStep) (s : EngineModel) (now : ℕ) (done_acts : List DoneActWithEffects) (t : EngineModel) (emitted : List Effect) → FirstDueActsAreDoneInOrder s now done_acts t → Executed steps s emitted → Executed (steps_of_acts now done_acts steps) t (emitted ++ effects_of_acts done_acts)
   works steps s now [] t emitted h executed = same_end steps s t emitted (emitted ++ []) h (append-nil emitted) executed
   works steps s now (done_act ∷ done_acts) t emitted h executed =
       let one : Executed (Worked now done_act.act done_act.effects ∷ steps) h.0 (emitted ++ done_act.effects) = record {
@@ -83,10 +83,10 @@ module _ (begin : EngineModel) where
         executed = same_end rest.steps last.model last.model ((emitted ++ h.1) ++ h.2) (emitted ++ effects) refl (ap (λ (es : List Effect). emitted ++ es) h.5 ∙ sym (append_assoc emitted h.1 h.2)) rest.executed;
       }
 
-pub plays_run : (table : Table) (held : List Stored) (first : ℕ) (items : List Item) (effects : List Effect) (last : PlayState) → ResponsesMayBeHeldAtStart table held first → ItemsArePlayed (play_state_over table held first) items effects last → PlayIsAGoodRunOverAStore table held first items effects last
+pub plays_run : (table : Table) (held : List Stored) (first : ℕ) (items : List Item) (effects : List Effect) (last : PlayState) → ResponsesMayBeHeldAtStart table held first → ItemsArePlayed (play_state_over_store table held first) items effects last → PlayIsAGoodRunOverAStore table held first items effects last
 plays_run table held first items effects last may h =
-    let begin = (play_state_over table held first).model in
-    let whole = plays begin items [] (play_state_over table held first) effects last [] h (record { executes = refl; emitted_is = refl }) in
+    let begin = (play_state_over_store table held first).model in
+    let whole = plays begin items [] (play_state_over_store table held first) effects last [] h (record { executes = refl; emitted_is = refl }) in
     record {
       steps = whole.steps;
       follows = whole.follows;

@@ -10,31 +10,31 @@ use Rattle.proxy_script.specs.Effects.{effects_text}
 use Rattle.proxy_script.specs.declared.effect_list.Effect.{Effect}
 use Rattle.proxy_engine.specs.Happenings.{HappeningModel as Happening}
 use Rattle.proxy_engine.specs.EngineModel.{EngineModel, model_after_happening, happening_fault}
-use Rattle.proxy_engine.specs.Due.{IsDueFirst}
+use Rattle.proxy_engine.specs.Due.{IsFirstDueAct}
 use Rattle.proxy_engine.specs.Acts.{ActIsDone}
-use Rattle.proxy_engine.specs.State.{State, EngineRepresents, IsFaultOrOutOfMemory, IsFaultOfTakingHappening, FirstDueActWasDone, NoActWasDoneBecauseOf}
+use Rattle.proxy_engine.specs.State.{State, EngineRepresents, IsFaultOrOutOfMemory, IsFaultOfTakingHappening, FirstDueActIfAnyWasDone, NoActWasDoneBecauseOf}
 use Rattle.proxy_engine.specs.declared.work.EngineFault.{EngineFault}
 use Rattle.proxy_engine.specs.declared.work.EngineFault.TheVariants as engine
 use Rattle.proxy_engine.specs.declared.work.Work.{Work}
 use Rattle.proxy_engine.specs.declared.work.Work.TheVariants as work
 use Rattle.proxy_replay.specs.declared.replay_fault.ReplayFault.TheVariants as faults
-use Rattle.proxy_replay.specs.Played.{DoneActWithEffects, ActsAreDoneInOrder, effects_of_acts, DueActsStopAtFault, EngineRefusesHappening}
+use Rattle.proxy_replay.specs.Played.{DoneActWithEffects, FirstDueActsAreDoneInOrder, effects_of_acts, DueActsStopAtFault, EngineFailsAtHappening}
 use Rattle.proxy_replay.specs.Steps.{replay_fault_of_engine_fault, EngineDidDueActs, EngineDidAllDueActs, ItemWasPlayedAndWritten, PlayingItemFails, ItemWasNotPlayed}
 
 -- acts that were done
 
-works_more : (done_acts : List DoneActWithEffects) (s : EngineModel) (now : ℕ) (done_act : DoneActWithEffects) (t u : EngineModel) → ActsAreDoneInOrder s now done_acts t → IsDueFirst t (Some done_act.act) → ActIsDone t now done_act.act done_act.effects u → ActsAreDoneInOrder s now (done_acts ++ done_act ∷ []) u
+works_more : (done_acts : List DoneActWithEffects) (s : EngineModel) (now : ℕ) (done_act : DoneActWithEffects) (t u : EngineModel) → FirstDueActsAreDoneInOrder s now done_acts t → IsFirstDueAct t (Some done_act.act) → ActIsDone t now done_act.act done_act.effects u → FirstDueActsAreDoneInOrder s now (done_acts ++ done_act ∷ []) u
 works_more [] s now done_act t u here due does =
-    (u, subst (λ x. IsDueFirst x (Some done_act.act)) here due, subst (λ x. ActIsDone x now done_act.act done_act.effects u) here does, refl)
+    (u, subst (λ x. IsFirstDueAct x (Some done_act.act)) here due, subst (λ x. ActIsDone x now done_act.act done_act.effects u) here does, refl)
 works_more (first ∷ done_acts) s now done_act t u before due does =
     (before.0, before.1, before.2, works_more done_acts before.0 now done_act t u before.3 due does)
 
 pub worked_first : (s : EngineModel) (now : ℕ) (e : State) → EngineRepresents e s → EngineDidDueActs s now [] e
 worked_first s now e represents = record { done_acts = []; last = s; works = refl; emitted = refl; represents = represents }
 
-pub worked_more : (s : EngineModel) (now : ℕ) (effects : List Effect) (e new : State) (w : Work) (more : Vec Effect Global) → (before : EngineDidDueActs s now effects e) → w ≡ work.Did more → FirstDueActWasDone before.last now w new → EngineDidDueActs s now (effects ++ more.items) new
+pub worked_more : (s : EngineModel) (now : ℕ) (effects : List Effect) (e new : State) (w : Work) (more : Vec Effect Global) → (before : EngineDidDueActs s now effects e) → w ≡ work.Did more → FirstDueActIfAnyWasDone before.last now w new → EngineDidDueActs s now (effects ++ more.items) new
 worked_more s now effects e new w more before is did =
-    let one = subst (λ w. FirstDueActWasDone before.last now w new) is did in
+    let one = subst (λ w. FirstDueActIfAnyWasDone before.last now w new) is did in
     let done_act : DoneActWithEffects = record { act = one.0; effects = more.items } in
     record {
       done_acts = before.done_acts ++ done_act ∷ [];
@@ -46,9 +46,9 @@ worked_more s now effects e new w more before is did =
       represents = one.2.represents;
     }
 
-pub settled_by : (s : EngineModel) (now : ℕ) (effects : List Effect) (e new : State) (w : Work) → (before : EngineDidDueActs s now effects e) → w ≡ work.Idle → FirstDueActWasDone before.last now w new → EngineDidAllDueActs s now effects new
+pub settled_by : (s : EngineModel) (now : ℕ) (effects : List Effect) (e new : State) (w : Work) → (before : EngineDidDueActs s now effects e) → w ≡ work.Idle → FirstDueActIfAnyWasDone before.last now w new → EngineDidAllDueActs s now effects new
 settled_by s now effects e new w before is did =
-    let idle = subst (λ w. FirstDueActWasDone before.last now w new) is did in
+    let idle = subst (λ w. FirstDueActIfAnyWasDone before.last now w new) is did in
     record {
       worked = record { done_acts = before.done_acts; last = before.last; works = before.works; emitted = before.emitted; represents = idle.1 };
       idle = idle.0;
@@ -79,7 +79,7 @@ nothing_done s now e h old none represents = subst (λ h. ItemWasPlayedAndWritte
 
 -- why it wasn't done
 
-refuses_by : (s : EngineModel) (now : ℕ) (h : Happening) (o : Option EngineFault) (fault : EngineFault) → happening_fault s h ≡ o → IsFaultOrOutOfMemory o fault → fault ≢ engine.OutOfMemory → EngineRefusesHappening s now h fault
+refuses_by : (s : EngineModel) (now : ℕ) (h : Happening) (o : Option EngineFault) (fault : EngineFault) → happening_fault s h ≡ o → IsFaultOrOutOfMemory o fault → fault ≢ engine.OutOfMemory → EngineFailsAtHappening s now h fault
 refuses_by s now h None fault is refusal other = absurd (other refusal)
 refuses_by s now h (Some f) fault is refusal other = inl (is ∙ ap Some (sym refusal))
 

@@ -2,7 +2,7 @@
 --
 -- client_named_by_effect, link_named_by_effect: the connection and the link that an effect names
 -- NoEffectFollowsItsClose: behind a close nothing names that connection
--- NoEffectFollowsItsDrop: nor behind a drop that link
+-- NoEffectNamesADroppedLink: nor behind a drop that link
 -- PlayIsSilentAboutGoneClient: nor behind a client's going away its connection
 -- EachDroppedLinkIsNamedLast: each link that was dropped has one drop
 use Rattle.std.specs.Prelude.{◌≡◌, ◌≢◌, ℕ, ◌+◌, ◌<◌, List, [], ◌∷◌, ◌++◌, length, true, Option, None, Some}
@@ -53,8 +53,8 @@ NothingIsNamedAfterItsEnd ends of (e ∷ emitted) = EffectsNeverNameEndIfAny of 
 abbrev pub NoEffectFollowsItsClose : List Effect → Type 0
 NoEffectFollowsItsClose emitted = NothingIsNamedAfterItsEnd client_closed_by_effect client_named_by_effect emitted
 
-abbrev pub NoEffectFollowsItsDrop : List Effect → Type 0
-NoEffectFollowsItsDrop emitted = NothingIsNamedAfterItsEnd link_dropped_by_effect link_named_by_effect emitted
+abbrev pub NoEffectNamesADroppedLink : List Effect → Type 0
+NoEffectNamesADroppedLink emitted = NothingIsNamedAfterItsEnd link_dropped_by_effect link_named_by_effect emitted
 
 -- what is told behind the items in front names no more the connection that then goes away
 pub record PlayIsSilentAboutGoneClient (table : Table) (items : List Item) (n : ℕ)
@@ -72,7 +72,7 @@ EffectsDropLink l emitted = (before behind : List Effect) × (emitted ≡ before
 
 -- each link that is dropped in the end has a drop, and behind that nothing names it
 pub record EachDroppedLinkIsNamedLast (emitted : List Effect) (last : EngineModel) : Type 0 where
-  pub once : NoEffectFollowsItsDrop emitted
+  pub once : NoEffectNamesADroppedLink emitted
   pub each_has_a_drop : (j : ℕ) → j < length last.links → (link_at last j).dropped ≡ true
       → EffectsDropLink (last.first + j) emitted
 

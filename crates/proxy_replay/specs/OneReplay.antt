@@ -1,7 +1,7 @@
 -- What a replay refuses: another text than that of its script's play, an end that isn't there, a text where nothing was
 -- played.
 use Rattle.std.specs.Prelude.{◌≢◌, ℕ, List, ◌∷◌, Bool, true, false, Ok, Err}
-use Rattle.hx_allow.specs.declared.config_faults.ConfigFault.{ConfigFault}
+use Rattle.hx_allow.specs.declared.config_faults.TableFault.{TableFault}
 use Rattle.proxy_replay.specs.Replay.{ReplayEndsWith, OpensEmptyStore}
 use Rattle.proxy_replay.specs.declared.replay_fault.ReplayFault.TheVariants as faults
 
@@ -22,5 +22,5 @@ NoReadFaultAtTheEnd = (bytes written : List ℕ) → ReplayEndsWith OpensEmptySt
 -- nothing is written where the table is refused
 abbrev pub NothingIsWrittenForARefusedTable : Type 0
 NothingIsWrittenForARefusedTable =
-    (bytes written : List ℕ) (byte : ℕ) (ended : Bool) (fault : ConfigFault)
+    (bytes written : List ℕ) (byte : ℕ) (ended : Bool) (fault : TableFault)
     → ReplayEndsWith OpensEmptyStore bytes ended (byte ∷ written) (Err (faults.Config fault)) → ⊥

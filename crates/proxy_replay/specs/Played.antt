@@ -1,10 +1,10 @@
 -- What a play of a script is: its items in order, and behind each happening all that is then due.
 --
--- ActsAreDoneInOrder, DueActsAreAllDone: acts are done one after another, until none is due
+-- FirstDueActsAreDoneInOrder, DueActsAreAllDone: acts are done one after another, until none is due
 -- effects_of_acts: what they did
 -- happening_of_item, moment_after_item: what an item tells the engine, and the moment behind it
 -- PlayState: a model and the moment that stands
--- initial_play_state: that of a table      play_state_over: that of a table over a store that was kept
+-- initial_play_state: that of a table      play_state_over_store: that of a table over a store that was kept
 -- ItemsArePlayed: items are played                        EngineStopsAtItem: why the engine stops at an item
 use Rattle.std.specs.Prelude.{◌≡◌, ◌⊎◌, ℕ, List, [], ◌∷◌, ◌++◌, Option, None, Some}
 use Rattle.std.specs.List.{flat_map}
@@ -16,7 +16,7 @@ use Rattle.proxy_script.specs.declared.effect_list.Effect.{Effect}
 use Rattle.proxy_engine.specs.Beginnings.{engine_model_at_start}
 use Rattle.proxy_engine.specs.Happenings.{HappeningModel as Happening}
 use Rattle.proxy_engine.specs.EngineModel.{EngineModel, model_after_happening, happening_fault}
-use Rattle.proxy_engine.specs.Due.{Act, IsDueFirst}
+use Rattle.proxy_engine.specs.Due.{Act, IsFirstDueAct}
 use Rattle.proxy_engine.specs.Acts.{ActIsDone}
 use Rattle.proxy_engine.specs.State.{new_engine_model, NoActWasDoneBecauseOf}
 use Rattle.proxy_engine.specs.declared.work.EngineFault.{EngineFault}
@@ -28,15 +28,15 @@ pub record DoneActWithEffects : Type 0 where
   pub effects : List Effect
 
 -- the acts were done one after another at this moment, each the first that was due
-abbrev pub ActsAreDoneInOrder : EngineModel → ℕ → List DoneActWithEffects → EngineModel → Type 0
-ActsAreDoneInOrder s now [] t = t ≡ s
-ActsAreDoneInOrder s now (done_act ∷ done_acts) t =
-    (after : EngineModel) × IsDueFirst s (Some done_act.act) × ActIsDone s now done_act.act done_act.effects after
-    × ActsAreDoneInOrder after now done_acts t
+abbrev pub FirstDueActsAreDoneInOrder : EngineModel → ℕ → List DoneActWithEffects → EngineModel → Type 0
+FirstDueActsAreDoneInOrder s now [] t = t ≡ s
+FirstDueActsAreDoneInOrder s now (done_act ∷ done_acts) t =
+    (after : EngineModel) × IsFirstDueAct s (Some done_act.act) × ActIsDone s now done_act.act done_act.effects after
+    × FirstDueActsAreDoneInOrder after now done_acts t
 
 -- and then nothing is due
 abbrev pub DueActsAreAllDone : EngineModel → ℕ → List DoneActWithEffects → EngineModel → Type 0
-DueActsAreAllDone s now done_acts t = ActsAreDoneInOrder s now done_acts t × IsDueFirst t None
+DueActsAreAllDone s now done_acts t = FirstDueActsAreDoneInOrder s now done_acts t × IsFirstDueAct t None
 
 -- what the acts did, in order
 abbrev pub effects_of_acts : List DoneActWithEffects → List Effect
@@ -73,11 +73,11 @@ initial_play_state table = record {
 }
 
 -- the same over a store that holds these responses already: serials begin at the first that is given
-abbrev pub play_state_over : Table → List Stored → ℕ → PlayState
-play_state_over table held first = record { model = engine_model_at_start table held first 1; now = 0 }
+abbrev pub play_state_over_store : Table → List Stored → ℕ → PlayState
+play_state_over_store table held first = record { model = engine_model_at_start table held first 1; now = 0 }
 
 -- a happening was taken, and then all was done that was due
-pub record HappeningIsPlayed (s : EngineModel) (now : ℕ) (h : Happening) (effects : List Effect)
+pub record HappeningAndDueActsArePlayed (s : EngineModel) (now : ℕ) (h : Happening) (effects : List Effect)
     (t : EngineModel) : Type 0 where
   pub free : happening_fault s h ≡ None
   pub done_acts : List DoneActWithEffects
@@ -86,7 +86,7 @@ pub record HappeningIsPlayed (s : EngineModel) (now : ℕ) (h : Happening) (effe
 
 abbrev pub HappeningIfAnyIsPlayed : Option Happening → EngineModel → ℕ → List Effect → EngineModel → Type 0
 HappeningIfAnyIsPlayed None s now effects t = (effects ≡ []) × (t ≡ s)
-HappeningIfAnyIsPlayed (Some h) s now effects t = HappeningIsPlayed s now h effects t
+HappeningIfAnyIsPlayed (Some h) s now effects t = HappeningAndDueActsArePlayed s now h effects t
 
 -- an item was played, with these effects
 pub record ItemIsPlayed (a : PlayState) (item : Item) (effects : List Effect) (b : PlayState) : Type 0 where
@@ -104,16 +104,16 @@ ItemsArePlayed a (item ∷ items) effects c =
 pub record DueActsStopAtFault (s : EngineModel) (now : ℕ) (fault : EngineFault) : Type 0 where
   pub done_acts : List DoneActWithEffects
   pub last : EngineModel
-  pub works : ActsAreDoneInOrder s now done_acts last
+  pub works : FirstDueActsAreDoneInOrder s now done_acts last
   pub failed : NoActWasDoneBecauseOf last fault
 
 -- the engine refuses a happening; or it takes it, and of what is then due an act may need a link and no number is left
-abbrev pub EngineRefusesHappening : EngineModel → ℕ → Happening → EngineFault → Type 0
-EngineRefusesHappening s now h fault =
+abbrev pub EngineFailsAtHappening : EngineModel → ℕ → Happening → EngineFault → Type 0
+EngineFailsAtHappening s now h fault =
     (happening_fault s h ≡ Some fault) ⊎ ((fault ≡ Spent) × (happening_fault s h ≡ None) × DueActsStopAtFault
     (model_after_happening s h) now Spent)
 
 -- the engine stops at an item
 abbrev pub EngineStopsAtItem : PlayState → Item → EngineFault → Type 0
-EngineStopsAtItem a item fault = (h : Happening) × (happening_of_item item ≡ Some h) × EngineRefusesHappening a.model
+EngineStopsAtItem a item fault = (h : Happening) × (happening_of_item item ≡ Some h) × EngineFailsAtHappening a.model
     (moment_after_item a.now item) h fault

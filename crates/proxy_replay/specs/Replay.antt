@@ -4,15 +4,15 @@
 -- OpensEmptyStore, ReplayStoreIsRead: how a replay may open: over nothing, or over a store that was kept
 -- ScriptBytesLeadToState: the bytes are a table and items, which were played, and a rest
 -- ReplayEndsWith, ReplayFails: how the replay of bytes ends, and with which text written
--- IsReplayOverAStore, IsReplayOverEmptyStore: the same over a reader and a writer
--- IsReplayedOverAStore, IsReplayedOverEmptyStore, ScriptIsRefused: over memory
+-- ReplayOverAStoreReadsAndEnds, IsStreamReplayOverEmptyStore: the same over a reader and a writer
+-- ScriptIsReplayedOverAStore, IsReplayedOverEmptyStore, ScriptReplayFails: over memory
 use Rattle.std.specs.Prelude.{◌≡◌, ◌≢◌, ℕ, ◌+◌, ◌≤◌, List, [], ◌++◌, length, take, Bool, true, false, Option, Result}
 use Rattle.std.specs.Prelude.{Ok, Err}
 use Rattle.std.specs.Io.KnownBytes.{Consumes, Appends, IsAtEnd}
 use Rattle.hx_allow.specs.TableLines.{Table}
 use Rattle.hx_allow.specs.Tables.{BytesReadAsTable}
 use Rattle.hx_store.specs.Stored.{Stored}
-use Rattle.proxy_script.specs.Script.{ItemModel as Item, item_spelling, ItemHasSpelling, ItemIsAllowedAtPosition}
+use Rattle.proxy_script.specs.Script.{ItemModel as Item, item_spelling, ItemCanBeSpelled, ItemIsAllowedAtPosition}
 use Rattle.proxy_script.specs.Script.{IsScript}
 use Rattle.proxy_script.specs.Script.{Cut, Wrong, leading_item}
 use Rattle.proxy_script.specs.Script as item
@@ -22,14 +22,14 @@ use Rattle.proxy_engine.specs.Beginnings.{ResponsesMayBeHeldAtStart}
 use Rattle.proxy_store_file.specs.Stores.{StoreReading, read_store}
 use Rattle.proxy_store_file.specs.Streams.{ReaderGaveReading, ReaderIsRefusedFor, bounds_of, store_contents_of}
 use Rattle.proxy_replay.specs.Bytes.{script_limit}
-use Rattle.proxy_replay.specs.Played.{PlayState, play_state_over, ItemsArePlayed, EngineStopsAtItem}
+use Rattle.proxy_replay.specs.Played.{PlayState, play_state_over_store, ItemsArePlayed, EngineStopsAtItem}
 use Rattle.proxy_replay.specs.Runs.{PlayIsAGoodRunOverAStore}
 use Rattle.proxy_replay.specs.declared.replay_fault.ReplayFault.{ReplayFault}
 use Rattle.proxy_replay.specs.declared.replay_fault.ReplayFault.TheVariants as faults
 
 -- the item stands at the front, the first of a script or a later one, and more behind it
 abbrev pub BytesBeginWithItem : Bool → List ℕ → Item → List ℕ → Type 0
-BytesBeginWithItem first bytes item more = (bytes ≡ item_spelling item ++ more) × ItemHasSpelling item
+BytesBeginWithItem first bytes item more = (bytes ≡ item_spelling item ++ more) × ItemCanBeSpelled item
     × ItemIsAllowedAtPosition first item
 
 -- No item stands here. Of bytes that are the whole script that is said where some are left, or the table is missing;
@@ -67,7 +67,7 @@ pub record ScriptBytesLeadToState (Opens : Table → StoreReading
   pub first : ℕ
   pub opens : Opens config (Ok (store_contents_of held first))
   pub may : ResponsesMayBeHeldAtStart config held first
-  pub plays : ItemsArePlayed (play_state_over config held first) items effects last
+  pub plays : ItemsArePlayed (play_state_over_store config held first) items effects last
   pub run : PlayIsAGoodRunOverAStore config held first items effects last
 
 -- they lead so far, and P holds there
@@ -130,14 +130,14 @@ ReplayEndsWith Opens bytes ended written (Ok _) = (ended ≡ true)
 ReplayEndsWith Opens bytes ended written (Err fault) = ReplayFails Opens bytes ended written fault
 
 -- what was written, and how the replay of these bytes ends
-pub record ReplayWrites (Opens : Table → StoreReading → Type 0) (bytes : List ℕ) (ended : Bool)
+pub record ReplayWritesAndEnds (Opens : Table → StoreReading → Type 0) (bytes : List ℕ) (ended : Bool)
     (old new : Option (List ℕ)) (result : Result (Unit {0}) ReplayFault) : Type 0 where
   pub written : List ℕ
   pub appends : Appends old new written
   pub replays : ReplayEndsWith Opens bytes ended written result
 
 -- Bytes were read, and more only where they are too many or memory ran out; this is how their replay ends.
-pub record IsReplayOverAStore (Opens : Table → StoreReading → Type 0) (old new before after : Option (List ℕ))
+pub record ReplayOverAStoreReadsAndEnds (Opens : Table → StoreReading → Type 0) (old new before after : Option (List ℕ))
     (result : Result (Unit {0}) ReplayFault) : Type 0 where
   pub bytes : List ℕ
   pub over : List ℕ
@@ -146,16 +146,17 @@ pub record IsReplayOverAStore (Opens : Table → StoreReading → Type 0) (old n
   pub few : length bytes ≤ script_limit
   pub whole : ended ≡ true → (over ≡ []) × IsAtEnd new
   pub full : over ≢ [] → result ≢ Err faults.OutOfMemory → length bytes ≡ script_limit
-  pub writes : ReplayWrites Opens bytes ended before after result
+  pub writes : ReplayWritesAndEnds Opens bytes ended before after result
 
 -- over an empty store
-abbrev pub IsReplayOverEmptyStore : Option (List ℕ) → Option (List ℕ) → Option (List ℕ) → Option (List ℕ)
+abbrev pub IsStreamReplayOverEmptyStore : Option (List ℕ) → Option (List ℕ) → Option (List ℕ) → Option (List ℕ)
     → Result (Unit {0}) ReplayFault → Type 0
-IsReplayOverEmptyStore old new before after result = IsReplayOverAStore OpensEmptyStore old new before after result
+IsStreamReplayOverEmptyStore old new before after result = ReplayOverAStoreReadsAndEnds OpensEmptyStore old new before
+    after result
 
 -- a whole script over a store that holds these responses at first: its table and its items, and the text of the
 -- effects of their play
-pub record IsReplayedOverAStore (held : List Stored) (first : ℕ) (script text : List ℕ) : Type 0 where
+pub record ScriptIsReplayedOverAStore (held : List Stored) (first : ℕ) (script text : List ℕ) : Type 0 where
   pub table : List ℕ
   pub items : List Item
   pub is_script : IsScript script table items
@@ -163,22 +164,22 @@ pub record IsReplayedOverAStore (held : List Stored) (first : ℕ) (script text 
   pub reads : BytesReadAsTable table (Ok config)
   pub effects : List Effect
   pub last : PlayState
-  pub plays : ItemsArePlayed (play_state_over config held first) items effects last
+  pub plays : ItemsArePlayed (play_state_over_store config held first) items effects last
   pub run : PlayIsAGoodRunOverAStore config held first items effects last
   pub emitted : text ≡ effects_text effects
 
 -- over an empty store
 abbrev pub IsReplayedOverEmptyStore : List ℕ → List ℕ → Type 0
-IsReplayedOverEmptyStore script text = IsReplayedOverAStore [] 1 script text
+IsReplayedOverEmptyStore script text = ScriptIsReplayedOverAStore [] 1 script text
 
 -- a script that is replayed over a store has one text of its effects
 abbrev pub ReplayHasOneText : Type 0
 ReplayHasOneText =
-    (held : List Stored) (first : ℕ) (script text other : List ℕ) → IsReplayedOverAStore held first script text
-    → IsReplayedOverAStore held first script other → text ≡ other
+    (held : List Stored) (first : ℕ) (script text other : List ℕ) → ScriptIsReplayedOverAStore held first script text
+    → ScriptIsReplayedOverAStore held first script other → text ≡ other
 
 -- why a script isn't replayed whole: the fault of it, or of the part that was read
-pub record ScriptIsRefused (script : List ℕ) (fault : ReplayFault) : Type 0 where
+pub record ScriptReplayFails (script : List ℕ) (fault : ReplayFault) : Type 0 where
   pub bytes : List ℕ
   pub more : List ℕ
   pub split : script ≡ bytes ++ more

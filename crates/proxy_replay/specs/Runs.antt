@@ -15,7 +15,7 @@ use Rattle.proxy_engine.specs.Beginnings.{store_holding}
 use Rattle.proxy_engine.specs.Happenings.{HappeningModel as Happening}
 use Rattle.proxy_engine.specs.Executions.{ExecutionStep, Took, Worked, StepsLeadToModel, effects_of_steps}
 use Rattle.proxy_engine.specs.Executions.{StepsAreAGoodRun as IsCoreRun}
-use Rattle.proxy_replay.specs.Played.{DoneActWithEffects, PlayState, play_state_over}
+use Rattle.proxy_replay.specs.Played.{DoneActWithEffects, PlayState, play_state_over_store}
 use Rattle.proxy_replay.specs.Played.{ItemsArePlayed, happening_of_item, moment_after_item}
 
 -- the steps of acts that were done at a moment, behind those before them; the latest first
@@ -47,9 +47,10 @@ pub record PlayIsAGoodRunOverAStore (table : Table) (held : List Stored) (first 
     (effects : List Effect) (last : PlayState) : Type 0 where
   pub steps : List ExecutionStep
   pub follows : StepsFollowItems 0 items [] steps
-  pub executes : StepsLeadToModel (play_state_over table held first).model steps last.model
+  pub executes : StepsLeadToModel (play_state_over_store table held first).model steps last.model
   pub emitted : effects_of_steps steps ≡ effects
-  pub run : IsCoreRun table (store_holding table held) first (play_state_over table held first).model steps last.model
+  pub run : IsCoreRun table (store_holding table held) first
+      (play_state_over_store table held first).model steps last.model
 
 -- the same over an empty store, where serials begin at 1
 abbrev pub PlayOverEmptyStoreIsAGoodRun : Table → List Item → List Effect → PlayState → Type 0

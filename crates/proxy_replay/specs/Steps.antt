@@ -3,11 +3,11 @@ use Rattle.std.specs.Prelude.{◌≡◌, ℕ, List, [], take, Bool, true, false,
 use Rattle.std.specs.Io.KnownBytes.{Appends}
 use Rattle.hx_allow.specs.TableLines.{Table}
 use Rattle.hx_allow.specs.Tables.{BytesReadAsTable}
-use Rattle.hx_allow.specs.declared.config_faults.ConfigFault.{ConfigFault}
-use Rattle.hx_allow.specs.declared.config_faults.ConfigFault.TheVariants as config
+use Rattle.hx_allow.specs.declared.config_faults.TableFault.{TableFault}
+use Rattle.hx_allow.specs.declared.config_faults.TableFault.TheVariants as config
 use Rattle.hx_store.specs.Stored.{Stored}
-use Rattle.proxy_store_file.specs.declared.store_faults.StoreFault.{StoreFault}
-use Rattle.proxy_store_file.specs.declared.store_faults.StoreFault.TheVariants as store
+use Rattle.proxy_store_file.specs.declared.store_faults.StoreReadFault.{StoreReadFault}
+use Rattle.proxy_store_file.specs.declared.store_faults.StoreReadFault.TheVariants as store
 use Rattle.proxy_store_file.specs.Stores.{StoreReading}
 use Rattle.proxy_store_file.specs.Streams.{store_contents_of}
 use Rattle.proxy_script.specs.Script.{ItemModel as Item, Cut, leading_item}
@@ -17,21 +17,21 @@ use Rattle.proxy_script.specs.declared.effect_list.Effect.{Effect}
 use Rattle.proxy_engine.specs.Beginnings.{ResponsesMayBeHeldAtStart}
 use Rattle.proxy_engine.specs.Happenings.{HappeningModel as Happening}
 use Rattle.proxy_engine.specs.EngineModel.{EngineModel}
-use Rattle.proxy_engine.specs.Due.{IsDueFirst}
+use Rattle.proxy_engine.specs.Due.{IsFirstDueAct}
 use Rattle.proxy_engine.specs.State.{State, EngineRepresents}
 use Rattle.proxy_engine.specs.declared.work.EngineFault.{EngineFault}
 use Rattle.proxy_engine.specs.declared.work.EngineFault.TheVariants as engine
-use Rattle.proxy_replay.specs.Played.{DoneActWithEffects, ActsAreDoneInOrder}
-use Rattle.proxy_replay.specs.Played.{effects_of_acts, HappeningIfAnyIsPlayed, play_state_over}
-use Rattle.proxy_replay.specs.Played.{EngineRefusesHappening}
+use Rattle.proxy_replay.specs.Played.{DoneActWithEffects, FirstDueActsAreDoneInOrder}
+use Rattle.proxy_replay.specs.Played.{effects_of_acts, HappeningIfAnyIsPlayed, play_state_over_store}
+use Rattle.proxy_replay.specs.Played.{EngineFailsAtHappening}
 use Rattle.proxy_replay.specs.Replay.{BytesBeginWithItem, NoItemIsReadAtFront, ReplayFails}
 use Rattle.proxy_replay.specs.declared.replay_fault.ReplayFault.{ReplayFault}
 use Rattle.proxy_replay.specs.declared.replay_fault.ReplayFault.TheVariants as faults
 
 -- what a fault of the table is to a replay
-abbrev pub replay_fault_of_config_fault : ConfigFault → ReplayFault
-replay_fault_of_config_fault config.OutOfMemory = faults.OutOfMemory
-replay_fault_of_config_fault fault = faults.Config fault
+abbrev pub replay_fault_of_table_fault : TableFault → ReplayFault
+replay_fault_of_table_fault config.OutOfMemory = faults.OutOfMemory
+replay_fault_of_table_fault fault = faults.Config fault
 
 -- what a fault of the engine is to a replay
 abbrev pub replay_fault_of_engine_fault : EngineFault → ReplayFault
@@ -42,7 +42,7 @@ replay_fault_of_engine_fault engine.OutOfMemory = faults.OutOfMemory
 replay_fault_of_engine_fault engine.Spent = faults.Engine engine.Spent
 
 -- what a fault of the store's file is to a replay
-abbrev pub replay_fault_of_store_fault : StoreFault → ReplayFault
+abbrev pub replay_fault_of_store_fault : StoreReadFault → ReplayFault
 replay_fault_of_store_fault store.OutOfMemory = faults.OutOfMemory
 replay_fault_of_store_fault fault = faults.Store fault
 
@@ -70,7 +70,7 @@ pub record EngineBeginsOverOpenedStore (Opens : Table → StoreReading
   pub first : ℕ
   pub opens : Opens table (Ok (store_contents_of held first))
   pub may : ResponsesMayBeHeldAtStart table held first
-  pub represents : EngineRepresents e (play_state_over table held first).model
+  pub represents : EngineRepresents e (play_state_over_store table held first).model
 
 -- or it doesn't, wherever its table was read, for this fault
 abbrev pub EngineBeginningFails : (Table → StoreReading → Type 0) → Table → ReplayFault → Type 0
@@ -81,14 +81,14 @@ EngineBeginningFails Opens table fault = (bytes rest : List ℕ) (ended : Bool) 
 pub record EngineDidDueActs (s : EngineModel) (now : ℕ) (effects : List Effect) (e : State) : Type 0 where
   pub done_acts : List DoneActWithEffects
   pub last : EngineModel
-  pub works : ActsAreDoneInOrder s now done_acts last
+  pub works : FirstDueActsAreDoneInOrder s now done_acts last
   pub emitted : effects ≡ effects_of_acts done_acts
   pub represents : EngineRepresents e last
 
 -- and nothing is due
 pub record EngineDidAllDueActs (s : EngineModel) (now : ℕ) (effects : List Effect) (e : State) : Type 0 where
   pub worked : EngineDidDueActs s now effects e
-  pub idle : IsDueFirst worked.last None
+  pub idle : IsFirstDueAct worked.last None
 
 -- what an item tells the engine was done and written
 pub record ItemWasPlayedAndWritten (s : EngineModel) (now : ℕ) (h : Option Happening) (e : State)
@@ -102,7 +102,7 @@ pub record ItemWasPlayedAndWritten (s : EngineModel) (now : ℕ) (h : Option Hap
 -- why it wasn't, with this text written
 abbrev pub PlayingItemFails : EngineModel → ℕ → Option Happening → List ℕ → ReplayFault → Type 0
 PlayingItemFails s now h written (faults.Engine fault) =
-    (taken : Happening) × (h ≡ Some taken) × EngineRefusesHappening s now taken fault × (written ≡ [])
+    (taken : Happening) × (h ≡ Some taken) × EngineFailsAtHappening s now taken fault × (written ≡ [])
 PlayingItemFails s now h written faults.Write =
     (effects : List Effect) × (last : EngineModel) × HappeningIfAnyIsPlayed h s now effects last × (k : ℕ)
     × (written ≡ take k (effects_text effects))

@@ -13,7 +13,7 @@ use std::io::{ErrorKind, Read, Write};
 const PIECE: usize = 4096;
 
 /// What a reader gives, up to its end, a failure or the limit, and whether it came to its end.
-pub(crate) fn read_script<R: Read>(
+pub(crate) fn read_script_bytes<R: Read>(
     alloc: Global,
     reader: &mut R,
 ) -> Result<(Vec<u8>, bool), AllocError>

@@ -5,13 +5,13 @@ ghost use Rattle.hx_store.specs.Stored.{Stored};
 ghost use Rattle.proxy_engine.specs.Beginnings.{ResponsesMayBeHeldAtStart};
 ghost use Rattle.proxy_script.specs.Script.{ItemModel as Item};
 ghost use Rattle.proxy_script.specs.declared.effect_list.Effect.{Effect};
-ghost use Rattle.proxy_replay.specs.Played.{PlayState, ItemsArePlayed, initial_play_state, play_state_over};
+ghost use Rattle.proxy_replay.specs.Played.{PlayState, ItemsArePlayed, initial_play_state, play_state_over_store};
 ghost use Rattle.proxy_replay.specs.Closes.{NoEffectFollowsAClose, NoEffectFollowsAGoneClient};
 ghost use Rattle.proxy_replay.specs.Closes.{EachEndedLinkIsDroppedOnce};
 ghost use Rattle.proxy_replay.specs.Runs.{PlayOverEmptyStoreIsAGoodRun, PlayIsAGoodRunOverAStore, ScriptHasOnePlay};
 ghost use Rattle.proxy_replay.specs.Replay.{ReplayHasOneText};
 
-pub use crate::replay_laws::{a_replay_writes_no_altered_text, worked_items};
+pub use crate::replay_laws::{a_replay_writes_no_altered_text, worked_plays_of_items};
 use hx_allow::laws::reading_of_a_table_is_unique;
 use proxy_engine::laws::{
     an_act_has_three_effects_at_most, an_act_is_done_in_one_way, each_drop_is_emitted,
@@ -28,7 +28,7 @@ pub fn each_play_is_a_good_run()
         → PlayOverEmptyStoreIsAGoodRun table items effects last }
     ensures over { (table : Table) → (held : List Stored) → (first : ℕ) → (items : List Item)
         → (effects : List Effect) → (last : PlayState) → ResponsesMayBeHeldAtStart table held first
-        → ItemsArePlayed (play_state_over table held first) items effects last
+        → ItemsArePlayed (play_state_over_store table held first) items effects last
         → PlayIsAGoodRunOverAStore table held first items effects last }
 {}
 

@@ -19,5 +19,5 @@ mod replay_fault;
 mod replay_laws;
 
 pub use crate::memory::replayed;
-pub use crate::play::{replay, replay_on_list, replay_over_store};
+pub use crate::play::{replay, replay_over_list_shelf, replay_over_store};
 pub use crate::replay_fault::ReplayFault;

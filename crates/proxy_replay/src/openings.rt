@@ -6,10 +6,10 @@ ghost use Rattle.proxy_store_file.specs.Stores.{StoreReading};
 ghost use Rattle.proxy_store_file.specs.Streams.{store_contents_of};
 ghost use Rattle.proxy_replay.specs.Replay.{OpensEmptyStore, ReplayStoreIsRead};
 
-use hx_allow::Config;
+use hx_allow::Table;
 use hx_store::Shelf;
 use proxy_kept_store::{a_server_may_begin_empty, read_kept_store};
-use proxy_store_file::StoreFault;
+use proxy_store_file::StoreReadFault;
 use std::alloc::Global;
 use std::io::Read;
 
@@ -23,9 +23,9 @@ pub(crate) trait StoreOpening {
     fn open<S: Shelf>(
         &mut self,
         alloc: Global,
-        config: &Config,
+        config: &Table,
         shelf: &mut S,
-    ) -> Result<u64, StoreFault>
+    ) -> Result<u64, StoreReadFault>
         requires empty { S.entries shelf.old ≡ [] }
         requires capacity { S.limit shelf.old ≡ config.now.capacity }
         ensures opens { IfOk result (λ first. opens self.old config.now
@@ -45,9 +45,9 @@ impl StoreOpening for EmptyStoreOpening {
     fn open<S: Shelf>(
         &mut self,
         alloc: Global,
-        config: &Config,
+        config: &Table,
         shelf: &mut S,
-    ) -> Result<u64, StoreFault> {
+    ) -> Result<u64, StoreReadFault> {
         a_server_may_begin_empty();
         Ok(1)
     }
@@ -65,9 +65,9 @@ impl<Q: Read + Drop> StoreOpening for KeptStoreOpening<Q> {
     fn open<S: Shelf>(
         &mut self,
         alloc: Global,
-        config: &Config,
+        config: &Table,
         shelf: &mut S,
-    ) -> Result<u64, StoreFault> {
+    ) -> Result<u64, StoreReadFault> {
         read_kept_store(alloc, config, shelf, &mut self.reader)
     }
 }

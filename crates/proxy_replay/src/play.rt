@@ -3,20 +3,21 @@ ghost use Rattle.std.specs.Prelude.{◌≡◌, ◌≤◌, length, false, [], IfO
 ghost use Rattle.proxy_script.specs.ScriptLines.{is_config};
 ghost use Rattle.proxy_script.specs.Script.{model_of_item, line_of_item, Table};
 ghost use Rattle.proxy_replay.specs.Bytes.{script_limit};
-ghost use Rattle.proxy_replay.specs.Replay.{ReplayWrites, IsReplayOverEmptyStore, IsReplayOverAStore};
+ghost use Rattle.proxy_replay.specs.Replay.{ReplayWritesAndEnds, IsStreamReplayOverEmptyStore};
+ghost use Rattle.proxy_replay.specs.Replay.{ReplayOverAStoreReadsAndEnds};
 ghost use Rattle.proxy_replay.specs.Replay.{ReplayStoreIsRead};
 ghost use Rattle.proxy_replay.specs.Steps.{TableIsReadFirst, TableIsNotRead, EngineBeginsOverOpenedStore};
 ghost use Rattle.proxy_replay.specs.Steps.{EngineBeginningFails};
 
-use crate::bytes::read_script;
+use crate::bytes::read_script_bytes;
 use crate::new_shelf::NewShelf;
 use crate::openings::{EmptyStoreOpening, KeptStoreOpening, StoreOpening};
 use crate::playing_items::{moment_after_item, play_item};
 use crate::replay_fault::ReplayFault;
-use hx_allow::Config;
+use hx_allow::Table;
 use hx_store::{IndexedShelf, ListShelf};
 use proxy_engine::Engine;
-use proxy_script::{Item, LeadingItem, read_item};
+use proxy_script::{Item, LeadingItemReading, read_item};
 use std::alloc::Global;
 use std::io::{Read, Write};
 
@@ -32,28 +33,28 @@ fn table_of_item(item: Item<'_>) -> Option<&[u8]>
 }
 
 /// The operator's table, which stands first, and what follows it.
-fn read_table(alloc: Global, bytes: &[u8], ended: bool) -> Result<(Config, &[u8]), ReplayFault>
+fn read_table(alloc: Global, bytes: &[u8], ended: bool) -> Result<(Table, &[u8]), ReplayFault>
     ensures ok { IfOk result (λ r. TableIsReadFirst bytes.now r.0 r.1.now) }
     ensures fault { IfErr result (TableIsNotRead bytes.now ended) }
 {
     match read_item(true, bytes) {
-        LeadingItem::Found(item, rest) => match table_of_item(item) {
-            Some(table) => match Config::read(alloc, table) {
+        LeadingItemReading::Found(item, rest) => match table_of_item(item) {
+            Some(table) => match Table::read(alloc, table) {
                 Ok(config) => Ok((config, rest)),
-                Err(fault) => Err(ReplayFault::replay_fault_of_config_fault(fault)),
+                Err(fault) => Err(ReplayFault::replay_fault_of_table_fault(fault)),
             },
             None => Err(ReplayFault::Line(1)),
         },
-        LeadingItem::Wrong => Err(ReplayFault::Line(1)),
-        LeadingItem::Cut if ended => Err(ReplayFault::Line(1)),
-        LeadingItem::Cut => Err(ReplayFault::Read),
+        LeadingItemReading::Wrong => Err(ReplayFault::Line(1)),
+        LeadingItemReading::Cut if ended => Err(ReplayFault::Line(1)),
+        LeadingItemReading::Cut => Err(ReplayFault::Read),
     }
 }
 
 /// The engine of a table, to which nothing has happened, over a store that is opened.
 fn begin<S: NewShelf + Drop, O: StoreOpening>(
     alloc: Global,
-    config: Config,
+    config: Table,
     opening: &mut O,
 ) -> Result<Engine<S>, ReplayFault>
     ensures ok { IfOk result (EngineBeginsOverOpenedStore (O.opens opening.old) config) }
@@ -78,7 +79,7 @@ fn play<S: NewShelf + Drop, O: StoreOpening, W: Write>(
     writer: &mut W,
 ) -> Result<(), ReplayFault>
     requires { length bytes.now ≤ script_limit }
-    ensures { ReplayWrites (O.opens opening.old) bytes.now ended (W.contents writer.old) (W.contents writer.new)
+    ensures { ReplayWritesAndEnds (O.opens opening.old) bytes.now ended (W.contents writer.old) (W.contents writer.new)
         result }
 {
     let (config, mut rest) = match read_table(alloc, bytes, ended) {
@@ -93,7 +94,7 @@ fn play<S: NewShelf + Drop, O: StoreOpening, W: Write>(
     let mut line = 2u64;
     'items: loop {
         match read_item(false, rest) {
-            LeadingItem::Found(item, more) => {
+            LeadingItemReading::Found(item, more) => {
                 now = moment_after_item(now, item);
                 match play_item(alloc, &mut engine, now, item, writer) {
                     Ok(()) => {}
@@ -102,8 +103,8 @@ fn play<S: NewShelf + Drop, O: StoreOpening, W: Write>(
                 rest = more;
                 line += 1;
             }
-            LeadingItem::Wrong => return Err(ReplayFault::Line(line)),
-            LeadingItem::Cut => {
+            LeadingItemReading::Wrong => return Err(ReplayFault::Line(line)),
+            LeadingItemReading::Cut => {
                 if !ended {
                     return Err(ReplayFault::Read);
                 }
@@ -123,10 +124,10 @@ fn replay_on<S: NewShelf + Drop, O: StoreOpening, R: Read, W: Write>(
     reader: &mut R,
     writer: &mut W,
 ) -> Result<(), ReplayFault>
-    ensures { IsReplayOverAStore (O.opens opening.old) (R.remaining reader.old) (R.remaining reader.new)
+    ensures { ReplayOverAStoreReadsAndEnds (O.opens opening.old) (R.remaining reader.old) (R.remaining reader.new)
         (W.contents writer.old) (W.contents writer.new) result }
 {
-    match read_script(alloc, reader) {
+    match read_script_bytes(alloc, reader) {
         Ok((bytes, ended)) => play::<S, O, W>(alloc, bytes.as_slice(), ended, opening, writer),
         Err(_) => Err(ReplayFault::OutOfMemory),
     }
@@ -141,7 +142,7 @@ pub fn replay<R: Read, W: Write>(
     reader: &mut R,
     writer: &mut W,
 ) -> Result<(), ReplayFault>
-    ensures { IsReplayOverEmptyStore (R.remaining reader.old) (R.remaining reader.new) (W.contents writer.old)
+    ensures { IsStreamReplayOverEmptyStore (R.remaining reader.old) (R.remaining reader.new) (W.contents writer.old)
         (W.contents writer.new) result }
 {
     replay_on::<IndexedShelf, EmptyStoreOpening, R, W>(
@@ -153,12 +154,12 @@ pub fn replay<R: Read, W: Write>(
 }
 
 /// The same over a shelf that is a list, to compare what both give.
-pub fn replay_on_list<R: Read, W: Write>(
+pub fn replay_over_list_shelf<R: Read, W: Write>(
     alloc: Global,
     reader: &mut R,
     writer: &mut W,
 ) -> Result<(), ReplayFault>
-    ensures { IsReplayOverEmptyStore (R.remaining reader.old) (R.remaining reader.new) (W.contents writer.old)
+    ensures { IsStreamReplayOverEmptyStore (R.remaining reader.old) (R.remaining reader.new) (W.contents writer.old)
         (W.contents writer.new) result }
 {
     replay_on::<ListShelf, EmptyStoreOpening, R, W>(alloc, &mut EmptyStoreOpening, reader, writer)
@@ -173,7 +174,7 @@ pub fn replay_over_store<Q: Read + Drop, R: Read, W: Write>(
     reader: &mut R,
     writer: &mut W,
 ) -> Result<(), ReplayFault>
-    ensures { IsReplayOverAStore (ReplayStoreIsRead (Q.remaining store)) (R.remaining reader.old)
+    ensures { ReplayOverAStoreReadsAndEnds (ReplayStoreIsRead (Q.remaining store)) (R.remaining reader.old)
         (R.remaining reader.new)
         (W.contents writer.old) (W.contents writer.new) result }
 {

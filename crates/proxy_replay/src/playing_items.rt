@@ -1,6 +1,6 @@
 //! One step of a replay: what an item tells the engine, and what is then done and written.
 ghost use Rattle.std.specs.Prelude.{◌≡◌, ◌<◌, ◌++◌, IfOk, IfErr, OnOk, Some, option_map};
-ghost use Rattle.hx_fields.specs.declared.limits.TheConstants.{END_OF_TIME};
+ghost use Rattle.hx_fields.specs.declared.limits.TheConstants.{START_OF_YEAR_10000};
 ghost use Rattle.proxy_engine.specs.Happenings.{model_of_happening};
 ghost use Rattle.proxy_engine.specs.EngineModel.{EngineModel};
 ghost use Rattle.proxy_engine.specs.State.{EngineRepresents};
@@ -54,7 +54,7 @@ fn settle<S: Shelf>(
     engine: &mut Engine<S>,
     now: u64,
 ) -> Result<Vec<Effect>, EngineFault>
-    requires { now < END_OF_TIME }
+    requires { now < START_OF_YEAR_10000 }
     ensures ok { IfOk result (λ effects. (s : EngineModel) → EngineRepresents engine.old s
         → EngineDidAllDueActs s now effects.items engine.new) }
     ensures fault { IfErr result (λ fault. (s : EngineModel) → EngineRepresents engine.old s
@@ -81,7 +81,7 @@ fn write<S: Shelf, W: Write>(
     happening: Happening<'_>,
     writer: &mut W,
 ) -> Result<(), ReplayFault>
-    requires { now < END_OF_TIME }
+    requires { now < START_OF_YEAR_10000 }
     ensures ok { OnOk result ((s : EngineModel) → EngineRepresents engine.old s
         → ItemWasPlayedAndWritten s now (Some (model_of_happening happening.entry)) engine.new (W.contents writer.old)
         (W.contents writer.new)) }
@@ -115,7 +115,7 @@ pub(crate) fn play_item<S: Shelf, W: Write>(
     item: Item<'_>,
     writer: &mut W,
 ) -> Result<(), ReplayFault>
-    requires { now < END_OF_TIME }
+    requires { now < START_OF_YEAR_10000 }
     ensures ok { OnOk result ((s : EngineModel) → EngineRepresents engine.old s
         → ItemWasPlayedAndWritten s now (happening_of_item (item_said item.entry)) engine.new (W.contents writer.old)
         (W.contents writer.new)) }

@@ -1,19 +1,19 @@
 //! Why a replay ended early.
 ghost use Rattle.std.specs.Prelude.{◌≡◌};
-ghost use Rattle.proxy_replay.specs.Steps.{replay_fault_of_config_fault, replay_fault_of_engine_fault};
+ghost use Rattle.proxy_replay.specs.Steps.{replay_fault_of_table_fault, replay_fault_of_engine_fault};
 ghost use Rattle.proxy_replay.specs.Steps.{replay_fault_of_store_fault};
 
-use hx_allow::ConfigFault;
+use hx_allow::TableFault;
 use proxy_engine::EngineFault;
-use proxy_store_file::StoreFault;
+use proxy_store_file::StoreReadFault;
 
 /// Why a replay ended early. The fault at the earliest place of the script is answered.
 #[derive(Drop)]
 pub enum ReplayFault {
     /// The operator's table is at fault. Nothing was written.
-    Config(ConfigFault),
+    Config(TableFault),
     /// The file of the store that it is to begin over is at fault. Nothing was written. It never names out of memory.
-    Store(StoreFault),
+    Store(StoreReadFault),
     /// The line of this number, counted from 1, is none of a script or doesn't stand where it may, or its block
     /// is missing or short. Blocks aren't counted as lines.
     Line(u64),
@@ -29,21 +29,21 @@ pub enum ReplayFault {
 
 impl ReplayFault {
     /// What a fault of the table is to a replay.
-    pub(crate) fn replay_fault_of_config_fault(fault: ConfigFault) -> ReplayFault
-        ensures { result ≡ replay_fault_of_config_fault fault }
+    pub(crate) fn replay_fault_of_table_fault(fault: TableFault) -> ReplayFault
+        ensures { result ≡ replay_fault_of_table_fault fault }
     {
         match fault {
-            ConfigFault::OutOfMemory => ReplayFault::OutOfMemory,
+            TableFault::OutOfMemory => ReplayFault::OutOfMemory,
             fault => ReplayFault::Config(fault),
         }
     }
 
     /// What a fault of the store's file is to a replay.
-    pub(crate) fn replay_fault_of_store_fault(fault: StoreFault) -> ReplayFault
+    pub(crate) fn replay_fault_of_store_fault(fault: StoreReadFault) -> ReplayFault
         ensures { result ≡ replay_fault_of_store_fault fault }
     {
         match fault {
-            StoreFault::OutOfMemory => ReplayFault::OutOfMemory,
+            StoreReadFault::OutOfMemory => ReplayFault::OutOfMemory,
             fault => ReplayFault::Store(fault),
         }
     }

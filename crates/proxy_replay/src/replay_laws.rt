@@ -33,7 +33,7 @@ pub fn a_replay_writes_no_altered_text()
 /// What items do: a moment stands from its item on, a happening is taken, the table and a moment happen to nobody. Acts
 /// stand in order, and as steps the latest first, at the moment that stands. A play begins with the room of its table,
 /// at moment 0.
-pub fn worked_items()
+pub fn worked_plays_of_items()
     ensures moment { moment_after_item 5 (item.Moment 9) ≡ 9 }
     ensures stays { moment_after_item 5 (item.Happens (Accepts 1)) ≡ 5 }
     ensures of_the_table { moment_after_item 5 (item.Table []) ≡ 5 }

@@ -3,9 +3,9 @@ use Rattle.std.proofs.Common.{◌≡◌, ℕ, suc, ◌+◌, ◌<◌, ◌≤◌, 
 use Rattle.std.proofs.lemmas.List.{length-append, get_or_at, take_at, length-take-le, drop_more, take-append-drop}
 use Rattle.std.proofs.lemmas.Bool.{eqb-true, leb-false, lt-leb}
 use Rattle.hx_fields.specs.Names.{split_at_first_byte}
-use Rattle.proxy_script.specs.ScriptLines.{line_text, LineHasSpelling, is_config, line_allowed_at_position}
+use Rattle.proxy_script.specs.ScriptLines.{line_text, LineCanBeSpelled, is_config, line_of_text_if_allowed}
 use Rattle.proxy_script.specs.Happenings as happening
-use Rattle.proxy_script.specs.Script.{ItemModel, Table, Moment, Happens, line_of_item, block_of_item, item_spelling, ItemHasSpelling, ItemIsAllowedAtPosition, Found, Whole, Short, Bad, leading_block, item_reading_with_block, item_of_line, item_of_line_if_any, item_after_line_end, leading_item}
+use Rattle.proxy_script.specs.Script.{ItemModel, Table, Moment, Happens, line_of_item, block_of_item, item_spelling, ItemCanBeSpelled, ItemIsAllowedAtPosition, Found, Whole, Short, Bad, leading_block, item_reading_with_block, item_of_line, item_of_line_if_any, item_after_line_end, leading_item}
 use Rattle.proxy_script.specs.declared.line_parser.ItemLine.{ItemLine}
 use Rattle.proxy_script.specs.declared.line_parser.ItemLine.TheVariants.{Config, At, Accept, Client, Link, End, Gone, Retire, Overdue, Shut, Fail}
 use Rattle.proxy_script.proofs.NumberLaws.{cut_found, cut_again}
@@ -36,7 +36,7 @@ said_again (Happens (happening.Overdues n)) rest = refl
 said_again (Happens (happening.Shuts l)) rest = refl
 said_again (Happens (happening.Fails l kind)) rest = refl
 
-pub item_again : (first : Bool) (h : ItemModel) (rest : List ℕ) → ItemHasSpelling h → ItemIsAllowedAtPosition first h → leading_item first (item_spelling h ++ rest) ≡ Found h rest
+pub item_again : (first : Bool) (h : ItemModel) (rest : List ℕ) → ItemCanBeSpelled h → ItemIsAllowedAtPosition first h → leading_item first (item_spelling h ++ rest) ≡ Found h rest
 unfolding leading_item
 item_again first h rest fits here =
     let line = line_text (line_of_item h) in
@@ -91,23 +91,23 @@ behind_found (Overdue n) bytes rest h e = plain_found (Happens (happening.Overdu
 behind_found (Shut l) bytes rest h e = plain_found (Happens (happening.Shuts l)) h bytes rest refl e
 behind_found (Fail l kind) bytes rest h e = plain_found (Happens (happening.Fails l kind)) h bytes rest refl e
 
-under_found : (first : Bool) (o : Option ItemLine) (line bytes rest : List ℕ) (h : ItemModel) → line_allowed_at_position first line ≡ o → item_of_line_if_any bytes o ≡ Found h rest → (line ++ 10 ∷ bytes ≡ item_spelling h ++ rest) × ItemHasSpelling h × ItemIsAllowedAtPosition first h
+under_found : (first : Bool) (o : Option ItemLine) (line bytes rest : List ℕ) (h : ItemModel) → line_of_text_if_allowed first line ≡ o → item_of_line_if_any bytes o ≡ Found h rest → (line ++ 10 ∷ bytes ≡ item_spelling h ++ rest) × ItemCanBeSpelled h × ItemIsAllowedAtPosition first h
 under_found first None line bytes rest h is e = cc
 under_found first (Some header) line bytes rest h is e =
     let spells = placed_found first line header is in
     let block = behind_found header bytes rest h e in (
       ap (λ l. l ++ 10 ∷ bytes) (spells.0 ∙ ap line_text block.0)
           ∙ (ap (λ b. line_text (line_of_item h) ++ 10 ∷ b) block.1 ∙ sym (append_assoc (line_text (line_of_item h)) (10 ∷ block_of_item h) rest)),
-      subst LineHasSpelling block.0 spells.1,
+      subst LineCanBeSpelled block.0 spells.1,
       ap is_config (sym block.0) ∙ spells.2,
     )
 
-on_found : (first : Bool) (o : Option (List ℕ × List ℕ)) (bytes rest : List ℕ) (h : ItemModel) → split_at_first_byte 10 bytes ≡ o → item_after_line_end first o ≡ Found h rest → (bytes ≡ item_spelling h ++ rest) × ItemHasSpelling h × ItemIsAllowedAtPosition first h
+on_found : (first : Bool) (o : Option (List ℕ × List ℕ)) (bytes rest : List ℕ) (h : ItemModel) → split_at_first_byte 10 bytes ≡ o → item_after_line_end first o ≡ Found h rest → (bytes ≡ item_spelling h ++ rest) × ItemCanBeSpelled h × ItemIsAllowedAtPosition first h
 on_found first None bytes rest h is e = cc
 on_found first (Some p) bytes rest h is e =
-    let found = under_found first (line_allowed_at_position first p.0) p.0 p.1 rest h refl e in
+    let found = under_found first (line_of_text_if_allowed first p.0) p.0 p.1 rest h refl e in
     (cut_found 10 bytes p.0 p.1 is ∙ found.0, found.1, found.2)
 
-pub item_found : (first : Bool) (bytes rest : List ℕ) (h : ItemModel) → leading_item first bytes ≡ Found h rest → (bytes ≡ item_spelling h ++ rest) × ItemHasSpelling h × ItemIsAllowedAtPosition first h
+pub item_found : (first : Bool) (bytes rest : List ℕ) (h : ItemModel) → leading_item first bytes ≡ Found h rest → (bytes ≡ item_spelling h ++ rest) × ItemCanBeSpelled h × ItemIsAllowedAtPosition first h
 unfolding leading_item
 item_found first bytes rest h e = on_found first (split_at_first_byte 10 bytes) bytes rest h refl e

@@ -6,10 +6,10 @@ use Rattle.std.specs.Fmt.{decimal}
 use Rattle.std.specs.Str.{bytes_eq}
 use Rattle.std.proofs.lemmas.Bool.{ltb-true, lt-ltb}
 use Rattle.std.proofs.lemmas.Slice.Eq.{bytes_eq-Decides}
-use Rattle.hx_fields.specs.declared.limits.TheConstants.{END_OF_TIME}
+use Rattle.hx_fields.specs.declared.limits.TheConstants.{START_OF_YEAR_10000}
 use Rattle.hx_fields.specs.Names.{split_at_first_byte}
 use Rattle.proxy_script.specs.DecimalNumbers.{number_of}
-use Rattle.proxy_script.specs.ScriptLines.{word_text, words, link_failures, IsLinkFailure, word_of_line, text_behind_word, line_text, LineHasSpelling, moment_in_range, pair_if_both_present, failure_of, two_numbers_of_text, number_and_failure, line_behind_word, word_of_text, line_of_word_and_rest, line_of_text, is_config, same_truth, line_if_allowed_at_position, line_allowed_at_position}
+use Rattle.proxy_script.specs.ScriptLines.{word_text, words, link_failures, IsFailKindOfConnection, word_of_line, text_behind_word, line_text, LineCanBeSpelled, moment_if_in_range, pair_if_both_present, failure_of, two_numbers_of_text, number_and_failure, line_of_word_with_rest, word_of_text, line_of_word_and_rest, line_of_text, is_config, same_truth, line_if_allowed_at_position, line_of_text_if_allowed}
 use Rattle.proxy_script.specs.declared.first_words.Word.{Word}
 use Rattle.proxy_script.specs.declared.first_words.Word.TheVariants as word
 use Rattle.hx_status.specs.Refusals.{fail_kind_word}
@@ -41,7 +41,7 @@ word_again word.Overdue = refl
 word_again word.Shut = refl
 word_again word.Fail = refl
 
-failure_again : (f : FailKind) → IsLinkFailure f → failure_of (fail_kind_word f) ≡ Some f
+failure_again : (f : FailKind) → IsFailKindOfConnection f → failure_of (fail_kind_word f) ≡ Some f
 failure_again Refused h = refl
 failure_again TimedOut h = refl
 failure_again Closed h = refl
@@ -88,18 +88,18 @@ failure_found : (text : List ℕ) (f : FailKind) → failure_of text ≡ Some f 
 failure_found text f e = (bytes_eq-Decides text (fail_kind_word f)).0 (found_passes (λ kind. bytes_eq text (fail_kind_word kind)) link_failures f e)
 
 -- what is found among the three is one of them
-of_three : (a b c : Bool) (f : FailKind) → cond a (Some Refused) (cond b (Some TimedOut) (cond c (Some Closed) None)) ≡ Some f → IsLinkFailure f
-of_three true b c f e = let same_truth : Refused ≡ f = cc in subst IsLinkFailure same_truth tt
-of_three false true c f e = let same_truth : TimedOut ≡ f = cc in subst IsLinkFailure same_truth tt
-of_three false false true f e = let same_truth : Closed ≡ f = cc in subst IsLinkFailure same_truth tt
+of_three : (a b c : Bool) (f : FailKind) → cond a (Some Refused) (cond b (Some TimedOut) (cond c (Some Closed) None)) ≡ Some f → IsFailKindOfConnection f
+of_three true b c f e = let same_truth : Refused ≡ f = cc in subst IsFailKindOfConnection same_truth tt
+of_three false true c f e = let same_truth : TimedOut ≡ f = cc in subst IsFailKindOfConnection same_truth tt
+of_three false false true f e = let same_truth : Closed ≡ f = cc in subst IsFailKindOfConnection same_truth tt
 of_three false false false f e = absurd (cc)
 
-failure_of_a_link : (text : List ℕ) (f : FailKind) → failure_of text ≡ Some f → IsLinkFailure f
+failure_of_a_link : (text : List ℕ) (f : FailKind) → failure_of text ≡ Some f → IsFailKindOfConnection f
 failure_of_a_link text f e = of_three (bytes_eq text (fail_kind_word Refused)) (bytes_eq text (fail_kind_word TimedOut)) (bytes_eq text (fail_kind_word Closed)) f e
 
 -- lines that are spelled
 
-rest_one_line : (h : ItemLine) → LineHasSpelling h → lacks 10 (text_behind_word h) ≡ true
+rest_one_line : (h : ItemLine) → LineCanBeSpelled h → lacks 10 (text_behind_word h) ≡ true
 rest_one_line (Config n) fits = lacks_decimal 10 n (omega arith) fits
 rest_one_line (At n) fits = lacks_decimal 10 n (omega arith) (omega (arith, fits))
 rest_one_line (Accept n) fits = lacks_decimal 10 n (omega arith) fits
@@ -113,20 +113,20 @@ rest_one_line (Shut n) fits = lacks_decimal 10 n (omega arith) fits
 rest_one_line (Fail n f) fits = lacks-append 10 (decimal n) (32 ∷ fail_kind_word f) (lacks_decimal 10 n (omega arith) fits.0) (failure_one_line f)
 
 -- a line has no LF
-pub line_one_line : (h : ItemLine) → LineHasSpelling h → lacks 10 (line_text h) ≡ true
+pub line_one_line : (h : ItemLine) → LineCanBeSpelled h → lacks 10 (line_text h) ≡ true
 line_one_line h fits = lacks-append 10 (word_text (word_of_line h)) (32 ∷ text_behind_word h) (word_one_line (word_of_line h)) (rest_one_line h fits)
 
 two_again : (n len : ℕ) → n < 2 ^ 64 → len < 2 ^ 64 → two_numbers_of_text (decimal n ++ 32 ∷ decimal len) ≡ Some (n, len)
 two_again n len small few = rw (cut_again 32 (decimal n) (decimal len) (lacks_decimal 32 n (omega arith) small), number_again n small, number_again len few) refl
 
-failing_again : (l : ℕ) (f : FailKind) → l < 2 ^ 64 → IsLinkFailure f → number_and_failure (decimal l ++ 32 ∷ fail_kind_word f) ≡ Some (l, f)
+failing_again : (l : ℕ) (f : FailKind) → l < 2 ^ 64 → IsFailKindOfConnection f → number_and_failure (decimal l ++ 32 ∷ fail_kind_word f) ≡ Some (l, f)
 failing_again l f small of_link = ap (option_and_then (λ p. pair_if_both_present (number_of p.0) (failure_of p.1))) (cut_again 32 (decimal l) (fail_kind_word f) (lacks_decimal 32 l (omega arith) small)) ∙ (ap (λ o. pair_if_both_present o (failure_of (fail_kind_word f))) (number_again l small) ∙ ap (pair_if_both_present (Some l)) (failure_again f of_link))
 
-with_again : (h : ItemLine) → LineHasSpelling h → line_behind_word (word_of_line h) (text_behind_word h) ≡ Some h
+with_again : (h : ItemLine) → LineCanBeSpelled h → line_of_word_with_rest (word_of_line h) (text_behind_word h) ≡ Some h
 with_again (Config n) fits = rw (number_again n fits) refl
 with_again (At n) fits =
     let small : n < 2 ^ 64 = omega (arith, fits) in
-    ap (λ o. option_map At (option_and_then moment_in_range o)) (number_again n small) ∙ rw (lt-ltb n END_OF_TIME fits) refl
+    ap (λ o. option_map At (option_and_then moment_if_in_range o)) (number_again n small) ∙ rw (lt-ltb n START_OF_YEAR_10000 fits) refl
 with_again (Accept n) fits = rw (number_again n fits) refl
 with_again (Client n len) fits = ap (option_map (λ p. Client p.0 p.1)) (two_again n len fits.0 fits.1)
 with_again (Link n len) fits = ap (option_map (λ p. Link p.0 p.1)) (two_again n len fits.0 fits.1)
@@ -137,11 +137,11 @@ with_again (Overdue n) fits = rw (number_again n fits) refl
 with_again (Shut n) fits = rw (number_again n fits) refl
 with_again (Fail n f) fits = ap (option_map (λ p. Fail p.0 p.1)) (failing_again n f fits.0 fits.1)
 
-pub line_again : (h : ItemLine) → LineHasSpelling h → line_of_text (line_text h) ≡ Some h
+pub line_again : (h : ItemLine) → LineCanBeSpelled h → line_of_text (line_text h) ≡ Some h
 unfolding line_of_text
 line_again h fits =
     ap (option_and_then line_of_word_and_rest) (cut_again 32 (word_text (word_of_line h)) (text_behind_word h) (word_lacks (word_of_line h)))
-    ∙ (ap (option_and_then (λ word. line_behind_word word (text_behind_word h))) (word_again (word_of_line h)) ∙ with_again h fits)
+    ∙ (ap (option_and_then (λ word. line_of_word_with_rest word (text_behind_word h))) (word_again (word_of_line h)) ∙ with_again h fits)
 
 placed_if : (t : Bool) (first : Bool) (h : ItemLine) → t ≡ first → cond (same_truth t first) (Some h) None ≡ Some h
 placed_if true true h e = refl
@@ -149,36 +149,36 @@ placed_if false false h e = refl
 placed_if true false h e = cc
 placed_if false true h e = cc
 
-pub placed_again : (first : Bool) (h : ItemLine) → LineHasSpelling h → is_config h ≡ first → line_allowed_at_position first (line_text h) ≡ Some h
+pub placed_again : (first : Bool) (h : ItemLine) → LineCanBeSpelled h → is_config h ≡ first → line_of_text_if_allowed first (line_text h) ≡ Some h
 placed_again first h fits here =
     ap (option_and_then (line_if_allowed_at_position first)) (line_again h fits) ∙ placed_if (is_config h) first h here
 
 -- lines that are read
 
-one_found : (v : ℕ → ItemLine) (o : Option ℕ) (bs : List ℕ) (w : Word) (h : ItemLine) → number_of bs ≡ o → ((n : ℕ) → line_text (v n) ≡ word_text w ++ 32 ∷ decimal n) → ((n : ℕ) → n < 2 ^ 64 → LineHasSpelling (v n)) → option_map v o ≡ Some h → (line_text h ≡ word_text w ++ 32 ∷ bs) × LineHasSpelling h
+one_found : (v : ℕ → ItemLine) (o : Option ℕ) (bs : List ℕ) (w : Word) (h : ItemLine) → number_of bs ≡ o → ((n : ℕ) → line_text (v n) ≡ word_text w ++ 32 ∷ decimal n) → ((n : ℕ) → n < 2 ^ 64 → LineCanBeSpelled (v n)) → option_map v o ≡ Some h → (line_text h ≡ word_text w ++ 32 ∷ bs) × LineCanBeSpelled h
 one_found v None bs w h is text fits e = cc
 one_found v (Some n) bs w h is text fits e =
     let this : v n ≡ h = cc in
     let found = number_found bs n is in
-    (subst (λ g. line_text g ≡ word_text w ++ 32 ∷ bs) this (text n ∙ ap (λ ds. word_text w ++ 32 ∷ ds) (sym found.0)), subst LineHasSpelling this (fits n found.1))
+    (subst (λ g. line_text g ≡ word_text w ++ 32 ∷ bs) this (text n ∙ ap (λ ds. word_text w ++ 32 ∷ ds) (sym found.0)), subst LineCanBeSpelled this (fits n found.1))
 
 moment_by : (t : Bool) (n m : ℕ) → cond t (Some n) None ≡ Some m → (t ≡ true) × (n ≡ m)
 moment_by true n m e = (refl, cc)
 moment_by false n m e = cc
 
-moment_found : (o : Option ℕ) (bs : List ℕ) (h : ItemLine) → number_of bs ≡ o → option_map At (option_and_then moment_in_range o) ≡ Some h → (line_text h ≡ codes "at" ++ 32 ∷ bs) × LineHasSpelling h
+moment_found : (o : Option ℕ) (bs : List ℕ) (h : ItemLine) → number_of bs ≡ o → option_map At (option_and_then moment_if_in_range o) ≡ Some h → (line_text h ≡ codes "at" ++ 32 ∷ bs) × LineCanBeSpelled h
 moment_found None bs h is e = cc
-moment_found (Some n) bs h is e = of_moment (moment_in_range n) refl e
+moment_found (Some n) bs h is e = of_moment (moment_if_in_range n) refl e
   where
-    of_moment : (o : Option ℕ) → moment_in_range n ≡ o → option_map At o ≡ Some h → (line_text h ≡ codes "at" ++ 32 ∷ bs) × LineHasSpelling h
+    of_moment : (o : Option ℕ) → moment_if_in_range n ≡ o → option_map At o ≡ Some h → (line_text h ≡ codes "at" ++ 32 ∷ bs) × LineCanBeSpelled h
     of_moment None has k = cc
     of_moment (Some m) has k =
         let this : At m ≡ h = cc in
-        let parts = moment_by (nat_lt n END_OF_TIME) n m has in
+        let parts = moment_by (nat_lt n START_OF_YEAR_10000) n m has in
         let found = number_found bs n is in
-        let small : n < END_OF_TIME = ltb-true n END_OF_TIME parts.0 in
+        let small : n < START_OF_YEAR_10000 = ltb-true n START_OF_YEAR_10000 parts.0 in
         let text : line_text (At m) ≡ codes "at" ++ 32 ∷ bs = ap (λ k. codes "at" ++ 32 ∷ decimal k) (sym parts.1) ∙ ap (λ ds. codes "at" ++ 32 ∷ ds) (sym found.0) in
-        (subst (λ g. line_text g ≡ codes "at" ++ 32 ∷ bs) this text, subst LineHasSpelling this (subst (λ k. k < END_OF_TIME) parts.1 small))
+        (subst (λ g. line_text g ≡ codes "at" ++ 32 ∷ bs) this text, subst LineCanBeSpelled this (subst (λ k. k < START_OF_YEAR_10000) parts.1 small))
 
 two_found_by : (o q : Option ℕ) (a b : List ℕ) (n len : ℕ) → number_of a ≡ o → number_of b ≡ q → pair_if_both_present o q ≡ Some (n, len) → (a ≡ decimal n) × (b ≡ decimal len) × (n < 2 ^ 64) × (len < 2 ^ 64)
 two_found_by None q a b n len is also e = cc
@@ -195,34 +195,34 @@ two_found (Some p) bs n len is e =
     let parts = two_found_by (number_of p.0) (number_of p.1) p.0 p.1 n len refl refl e in
     (cut_found 32 bs p.0 p.1 is ∙ rw (parts.0, parts.1) refl, parts.2, parts.3)
 
-pair_found : (v : ℕ → ℕ → ItemLine) (w : Word) (o : Option (ℕ × ℕ)) (bs : List ℕ) (h : ItemLine) → two_numbers_of_text bs ≡ o → ((n len : ℕ) → line_text (v n len) ≡ word_text w ++ 32 ∷ (decimal n ++ 32 ∷ decimal len)) → ((n len : ℕ) → n < 2 ^ 64 → len < 2 ^ 64 → LineHasSpelling (v n len)) → option_map (λ p. v p.0 p.1) o ≡ Some h → (line_text h ≡ word_text w ++ 32 ∷ bs) × LineHasSpelling h
+pair_found : (v : ℕ → ℕ → ItemLine) (w : Word) (o : Option (ℕ × ℕ)) (bs : List ℕ) (h : ItemLine) → two_numbers_of_text bs ≡ o → ((n len : ℕ) → line_text (v n len) ≡ word_text w ++ 32 ∷ (decimal n ++ 32 ∷ decimal len)) → ((n len : ℕ) → n < 2 ^ 64 → len < 2 ^ 64 → LineCanBeSpelled (v n len)) → option_map (λ p. v p.0 p.1) o ≡ Some h → (line_text h ≡ word_text w ++ 32 ∷ bs) × LineCanBeSpelled h
 pair_found v w None bs h is text fits e = cc
 pair_found v w (Some p) bs h is text fits e =
     let this : v p.0 p.1 ≡ h = cc in
     let found = two_found (split_at_first_byte 32 bs) bs p.0 p.1 refl is in
-    (subst (λ g. line_text g ≡ word_text w ++ 32 ∷ bs) this (text p.0 p.1 ∙ ap (λ r. word_text w ++ 32 ∷ r) (sym found.0)), subst LineHasSpelling this (fits p.0 p.1 found.1 found.2))
+    (subst (λ g. line_text g ≡ word_text w ++ 32 ∷ bs) this (text p.0 p.1 ∙ ap (λ r. word_text w ++ 32 ∷ r) (sym found.0)), subst LineCanBeSpelled this (fits p.0 p.1 found.1 found.2))
 
-failing_by : (o : Option ℕ) (q : Option FailKind) (a b : List ℕ) (l : ℕ) (f : FailKind) → number_of a ≡ o → failure_of b ≡ q → pair_if_both_present o q ≡ Some (l, f) → (a ≡ decimal l) × (b ≡ fail_kind_word f) × ((l < 2 ^ 64) × IsLinkFailure f)
+failing_by : (o : Option ℕ) (q : Option FailKind) (a b : List ℕ) (l : ℕ) (f : FailKind) → number_of a ≡ o → failure_of b ≡ q → pair_if_both_present o q ≡ Some (l, f) → (a ≡ decimal l) × (b ≡ fail_kind_word f) × ((l < 2 ^ 64) × IsFailKindOfConnection f)
 failing_by None q a b l f is also e = cc
 failing_by (Some k) None a b l f is also e = cc
 failing_by (Some k) (Some g) a b l f is also e =
     let parts = same_pair e in
     let first = number_found a k is in
-    (first.0 ∙ ap decimal parts.0, failure_found b g also ∙ ap fail_kind_word parts.1, (subst (λ x. x < 2 ^ 64) parts.0 first.1, subst IsLinkFailure parts.1 (failure_of_a_link b g also)))
+    (first.0 ∙ ap decimal parts.0, failure_found b g also ∙ ap fail_kind_word parts.1, (subst (λ x. x < 2 ^ 64) parts.0 first.1, subst IsFailKindOfConnection parts.1 (failure_of_a_link b g also)))
 
-failing_found : (o : Option (ℕ × FailKind)) (bs : List ℕ) (h : ItemLine) → number_and_failure bs ≡ o → option_map (λ p. Fail p.0 p.1) o ≡ Some h → (line_text h ≡ codes "fail" ++ 32 ∷ bs) × LineHasSpelling h
+failing_found : (o : Option (ℕ × FailKind)) (bs : List ℕ) (h : ItemLine) → number_and_failure bs ≡ o → option_map (λ p. Fail p.0 p.1) o ≡ Some h → (line_text h ≡ codes "fail" ++ 32 ∷ bs) × LineCanBeSpelled h
 failing_found None bs h is e = cc
 failing_found (Some p) bs h is e = of_cut (split_at_first_byte 32 bs) refl is
   where
-    of_cut : (o : Option (List ℕ × List ℕ)) → split_at_first_byte 32 bs ≡ o → option_and_then (λ q. pair_if_both_present (number_of q.0) (failure_of q.1)) o ≡ Some p → (line_text h ≡ codes "fail" ++ 32 ∷ bs) × LineHasSpelling h
+    of_cut : (o : Option (List ℕ × List ℕ)) → split_at_first_byte 32 bs ≡ o → option_and_then (λ q. pair_if_both_present (number_of q.0) (failure_of q.1)) o ≡ Some p → (line_text h ≡ codes "fail" ++ 32 ∷ bs) × LineCanBeSpelled h
     of_cut None cut k = cc
     of_cut (Some q) cut k =
         let this : Fail p.0 p.1 ≡ h = cc in
         let parts = failing_by (number_of q.0) (failure_of q.1) q.0 q.1 p.0 p.1 refl refl k in
         let rest : bs ≡ decimal p.0 ++ 32 ∷ fail_kind_word p.1 = cut_found 32 bs q.0 q.1 cut ∙ rw (parts.0, parts.1) refl in
-        (subst (λ g. line_text g ≡ codes "fail" ++ 32 ∷ bs) this (ap (λ r. codes "fail" ++ 32 ∷ r) (sym rest)), subst LineHasSpelling this parts.2)
+        (subst (λ g. line_text g ≡ codes "fail" ++ 32 ∷ bs) this (ap (λ r. codes "fail" ++ 32 ∷ r) (sym rest)), subst LineCanBeSpelled this parts.2)
 
-with_found : (w : Word) (bs : List ℕ) (h : ItemLine) → line_behind_word w bs ≡ Some h → (line_text h ≡ word_text w ++ 32 ∷ bs) × LineHasSpelling h
+with_found : (w : Word) (bs : List ℕ) (h : ItemLine) → line_of_word_with_rest w bs ≡ Some h → (line_text h ≡ word_text w ++ 32 ∷ bs) × LineCanBeSpelled h
 with_found word.Config bs h e = one_found Config (number_of bs) bs word.Config h refl (λ n. refl) (λ n k. k) e
 with_found word.At bs h e = moment_found (number_of bs) bs h refl e
 with_found word.Accept bs h e = one_found Accept (number_of bs) bs word.Accept h refl (λ n. refl) (λ n k. k) e
@@ -235,19 +235,19 @@ with_found word.Overdue bs h e = one_found Overdue (number_of bs) bs word.Overdu
 with_found word.Shut bs h e = one_found Shut (number_of bs) bs word.Shut h refl (λ n. refl) (λ n k. k) e
 with_found word.Fail bs h e = failing_found (number_and_failure bs) bs h refl e
 
-by_found : (o : Option Word) (p : List ℕ × List ℕ) (h : ItemLine) → word_of_text p.0 ≡ o → option_and_then (λ word. line_behind_word word p.1) o ≡ Some h → (line_text h ≡ p.0 ++ 32 ∷ p.1) × LineHasSpelling h
+by_found : (o : Option Word) (p : List ℕ × List ℕ) (h : ItemLine) → word_of_text p.0 ≡ o → option_and_then (λ word. line_of_word_with_rest word p.1) o ≡ Some h → (line_text h ≡ p.0 ++ 32 ∷ p.1) × LineCanBeSpelled h
 by_found None p h is e = cc
 by_found (Some w) p h is e =
     let found = with_found w p.1 h e in
     (found.0 ∙ ap (λ text. text ++ 32 ∷ p.1) (sym (word_found p.0 w is)), found.1)
 
-line_found_by : (o : Option (List ℕ × List ℕ)) (line : List ℕ) (h : ItemLine) → split_at_first_byte 32 line ≡ o → option_and_then line_of_word_and_rest o ≡ Some h → (line ≡ line_text h) × LineHasSpelling h
+line_found_by : (o : Option (List ℕ × List ℕ)) (line : List ℕ) (h : ItemLine) → split_at_first_byte 32 line ≡ o → option_and_then line_of_word_and_rest o ≡ Some h → (line ≡ line_text h) × LineCanBeSpelled h
 line_found_by None line h is e = cc
 line_found_by (Some p) line h is e =
     let found = by_found (word_of_text p.0) p h refl e in
     (cut_found 32 line p.0 p.1 is ∙ sym found.0, found.1)
 
-pub line_found : (line : List ℕ) (h : ItemLine) → line_of_text line ≡ Some h → (line ≡ line_text h) × LineHasSpelling h
+pub line_found : (line : List ℕ) (h : ItemLine) → line_of_text line ≡ Some h → (line ≡ line_text h) × LineCanBeSpelled h
 unfolding line_of_text
 line_found line h e = line_found_by (split_at_first_byte 32 line) line h refl e
 
@@ -257,12 +257,12 @@ placed_by false false g h e = (refl, cc)
 placed_by true false g h e = cc
 placed_by false true g h e = cc
 
-pub placed_found : (first : Bool) (line : List ℕ) (h : ItemLine) → line_allowed_at_position first line ≡ Some h → (line ≡ line_text h) × LineHasSpelling h × (is_config h ≡ first)
+pub placed_found : (first : Bool) (line : List ℕ) (h : ItemLine) → line_of_text_if_allowed first line ≡ Some h → (line ≡ line_text h) × LineCanBeSpelled h × (is_config h ≡ first)
 placed_found first line h e = of_header (line_of_text line) refl e
   where
-    of_header : (o : Option ItemLine) → line_of_text line ≡ o → option_and_then (line_if_allowed_at_position first) o ≡ Some h → (line ≡ line_text h) × LineHasSpelling h × (is_config h ≡ first)
+    of_header : (o : Option ItemLine) → line_of_text line ≡ o → option_and_then (line_if_allowed_at_position first) o ≡ Some h → (line ≡ line_text h) × LineCanBeSpelled h × (is_config h ≡ first)
     of_header None is k = cc
     of_header (Some g) is k =
         let parts = placed_by (is_config g) first g h k in
         let found = line_found line g is in
-        (found.0 ∙ ap line_text parts.1, subst LineHasSpelling parts.1 found.1, ap is_config (sym parts.1) ∙ parts.0)
+        (found.0 ∙ ap line_text parts.1, subst LineCanBeSpelled parts.1 found.1, ap is_config (sym parts.1) ∙ parts.0)

@@ -1,13 +1,13 @@
 -- The grammar of scripts: how an item is spelled, and what stands at the front of bytes.
 --
--- ItemModel: what an item says       item_spelling: how it is spelled      ItemHasSpelling: what has a spelling
+-- ItemModel: what an item says       item_spelling: how it is spelled      ItemCanBeSpelled: what has a spelling
 -- leading_item: the item at the front, less than a whole one, or none
 -- IsScript: the bytes are the spelling of a table and of items
 use Rattle.std.specs.Prelude.{◌≡◌, ℕ, ◌+◌, ◌==◌, nat_le, List, [], ◌∷◌, ◌++◌, length, Bool, false, Option, None, Some}
 use Rattle.std.specs.Prelude.{if◌then◌else◌, slice_index, take, drop}
 use Rattle.std.specs.List.{flat_map, AllByRecursion}
 use Rattle.hx_fields.specs.Names.{split_at_first_byte}
-use Rattle.proxy_script.specs.ScriptLines.{line_text, LineHasSpelling, is_config, line_allowed_at_position}
+use Rattle.proxy_script.specs.ScriptLines.{line_text, LineCanBeSpelled, is_config, line_of_text_if_allowed}
 use Rattle.proxy_script.specs.Happenings.{HappeningModel as Happening}
 use Rattle.proxy_script.specs.Happenings as happening
 use Rattle.proxy_script.specs.declared.line_parser.ItemLine.{ItemLine}
@@ -15,8 +15,8 @@ use Rattle.proxy_script.specs.declared.line_parser.ItemLine.TheVariants.{Config,
 use Rattle.proxy_script.specs.declared.line_parser.ItemLine.TheVariants.{Retire, Overdue, Shut, Fail}
 use Rattle.proxy_script.specs.declared.items.Item.{Item}
 use Rattle.proxy_script.specs.declared.items.Item.TheVariants as item
-use Rattle.proxy_script.specs.declared.parser.LeadingItem.{LeadingItem}
-use Rattle.proxy_script.specs.declared.parser.LeadingItem.TheVariants as front
+use Rattle.proxy_script.specs.declared.parser.LeadingItemReading.{LeadingItemReading}
+use Rattle.proxy_script.specs.declared.parser.LeadingItemReading.TheVariants as front
 use Rattle.proxy_script.specs.declared.parser.Block.{Block}
 use Rattle.proxy_script.specs.declared.parser.Block.TheVariants as block
 
@@ -58,8 +58,8 @@ abbrev pub item_spelling : ItemModel → List ℕ
 item_spelling h = line_text (line_of_item h) ++ 10 ∷ block_of_item h
 
 -- what has a spelling
-abbrev pub ItemHasSpelling : ItemModel → Type 0
-ItemHasSpelling h = LineHasSpelling (line_of_item h)
+abbrev pub ItemCanBeSpelled : ItemModel → Type 0
+ItemCanBeSpelled h = LineCanBeSpelled (line_of_item h)
 
 -- the item stands first, as the table does, or later
 abbrev pub ItemIsAllowedAtPosition : Bool → ItemModel → Type 0
@@ -110,7 +110,7 @@ item_of_line_if_any rest (Some header) = item_of_line header rest
 
 abbrev pub item_after_line_end : Bool → Option (List ℕ × List ℕ) → ItemReading
 item_after_line_end first None = Cut
-item_after_line_end first (Some p) = item_of_line_if_any p.1 (line_allowed_at_position first p.0)
+item_after_line_end first (Some p) = item_of_line_if_any p.1 (line_of_text_if_allowed first p.0)
 
 -- the item at the front, the table where it is the first
 unfoldable pub leading_item : Bool → List ℕ → ItemReading
@@ -119,8 +119,8 @@ leading_item first bytes = item_after_line_end first (split_at_first_byte 10 byt
 -- the bytes are a script of this table and these items
 pub record IsScript (bytes table : List ℕ) (items : List ItemModel) : Type 0 where
   pub script : bytes ≡ item_spelling (Table table) ++ flat_map item_spelling items
-  pub table_fits : ItemHasSpelling (Table table)
-  pub items_fit : AllByRecursion ItemHasSpelling items
+  pub table_fits : ItemCanBeSpelled (Table table)
+  pub items_fit : AllByRecursion ItemCanBeSpelled items
   pub one_table : AllByRecursion (ItemIsAllowedAtPosition false) items
 
 -- what the code's items say
@@ -129,7 +129,7 @@ model_of_item (item.Config bytes) = Table bytes.now
 model_of_item (item.At m) = Moment m
 model_of_item (item.Happens h) = Happens (happening.model_of_happening h)
 
-abbrev pub model_of_leading_item : LeadingItem → ItemReading
+abbrev pub model_of_leading_item : LeadingItemReading → ItemReading
 model_of_leading_item (front.Found h rest) = Found (model_of_item h) rest.now
 model_of_leading_item front.Cut = Cut
 model_of_leading_item front.Wrong = Wrong

@@ -2,7 +2,7 @@
 use Rattle.std.specs.Prelude.{ℕ, ◌^◌, ◌<◌, List, [], ◌∷◌, ◌++◌, Bool, true, false, not, find, nat_lt, Option, None}
 use Rattle.std.specs.Prelude.{Some, if◌then◌else◌, codes, decimal, bytes_eq}
 use Rattle.std.specs.Option.{option_map, option_and_then}
-use Rattle.hx_fields.specs.declared.limits.TheConstants.{END_OF_TIME}
+use Rattle.hx_fields.specs.declared.limits.TheConstants.{START_OF_YEAR_10000}
 use Rattle.hx_fields.specs.Names.{split_at_first_byte}
 use Rattle.proxy_script.specs.DecimalNumbers.{number_of}
 use Rattle.proxy_script.specs.declared.first_words.Word.{Word}
@@ -36,12 +36,12 @@ words =
 abbrev pub link_failures : List FailKind
 link_failures = Refused ∷ TimedOut ∷ Closed ∷ []
 
-abbrev pub IsLinkFailure : FailKind → Type 0
-IsLinkFailure Refused = Unit {0}
-IsLinkFailure TimedOut = Unit {0}
-IsLinkFailure Closed = Unit {0}
-IsLinkFailure BadAnswer = ⊥
-IsLinkFailure TooLarge = ⊥
+abbrev pub IsFailKindOfConnection : FailKind → Type 0
+IsFailKindOfConnection Refused = Unit {0}
+IsFailKindOfConnection TimedOut = Unit {0}
+IsFailKindOfConnection Closed = Unit {0}
+IsFailKindOfConnection BadAnswer = ⊥
+IsFailKindOfConnection TooLarge = ⊥
 
 abbrev pub word_of_line : ItemLine → Word
 word_of_line (Config len) = word.Config
@@ -75,24 +75,24 @@ abbrev pub line_text : ItemLine → List ℕ
 line_text header = word_text (word_of_line header) ++ 32 ∷ text_behind_word header
 
 -- numbers that have a spelling, moments, and the failures of links
-abbrev pub LineHasSpelling : ItemLine → Type 0
-LineHasSpelling (Config len) = len < 2 ^ 64
-LineHasSpelling (At m) = m < END_OF_TIME
-LineHasSpelling (Accept n) = n < 2 ^ 64
-LineHasSpelling (Client n len) = (n < 2 ^ 64) × (len < 2 ^ 64)
-LineHasSpelling (Link l len) = (l < 2 ^ 64) × (len < 2 ^ 64)
-LineHasSpelling (End n) = n < 2 ^ 64
-LineHasSpelling (Gone n) = n < 2 ^ 64
-LineHasSpelling (Retire n) = n < 2 ^ 64
-LineHasSpelling (Overdue n) = n < 2 ^ 64
-LineHasSpelling (Shut l) = l < 2 ^ 64
-LineHasSpelling (Fail l kind) = (l < 2 ^ 64) × IsLinkFailure kind
+abbrev pub LineCanBeSpelled : ItemLine → Type 0
+LineCanBeSpelled (Config len) = len < 2 ^ 64
+LineCanBeSpelled (At m) = m < START_OF_YEAR_10000
+LineCanBeSpelled (Accept n) = n < 2 ^ 64
+LineCanBeSpelled (Client n len) = (n < 2 ^ 64) × (len < 2 ^ 64)
+LineCanBeSpelled (Link l len) = (l < 2 ^ 64) × (len < 2 ^ 64)
+LineCanBeSpelled (End n) = n < 2 ^ 64
+LineCanBeSpelled (Gone n) = n < 2 ^ 64
+LineCanBeSpelled (Retire n) = n < 2 ^ 64
+LineCanBeSpelled (Overdue n) = n < 2 ^ 64
+LineCanBeSpelled (Shut l) = l < 2 ^ 64
+LineCanBeSpelled (Fail l kind) = (l < 2 ^ 64) × IsFailKindOfConnection kind
 
-abbrev pub moment_in_range : ℕ → Option ℕ
-moment_in_range m = if nat_lt m END_OF_TIME then Some m else None
+abbrev pub moment_if_in_range : ℕ → Option ℕ
+moment_if_in_range m = if nat_lt m START_OF_YEAR_10000 then Some m else None
 
-abbrev pub moment_of : List ℕ → Option ℕ
-moment_of text = option_and_then moment_in_range (number_of text)
+abbrev pub moment_of_text : List ℕ → Option ℕ
+moment_of_text text = option_and_then moment_if_in_range (number_of text)
 
 abbrev pub pair_if_both_present : {A B : Type 0} → Option A → Option B → Option (A × B)
 pair_if_both_present None y = None
@@ -111,24 +111,24 @@ number_and_failure text =
     option_and_then (λ p. pair_if_both_present (number_of p.0) (failure_of p.1)) (split_at_first_byte 32 text)
 
 -- what a line says behind its first word
-abbrev pub line_behind_word : Word → List ℕ → Option ItemLine
-line_behind_word word.Config rest = option_map Config (number_of rest)
-line_behind_word word.At rest = option_map At (moment_of rest)
-line_behind_word word.Accept rest = option_map Accept (number_of rest)
-line_behind_word word.Client rest = option_map (λ p. Client p.0 p.1) (two_numbers_of_text rest)
-line_behind_word word.Link rest = option_map (λ p. Link p.0 p.1) (two_numbers_of_text rest)
-line_behind_word word.End rest = option_map End (number_of rest)
-line_behind_word word.Gone rest = option_map Gone (number_of rest)
-line_behind_word word.Retire rest = option_map Retire (number_of rest)
-line_behind_word word.Overdue rest = option_map Overdue (number_of rest)
-line_behind_word word.Shut rest = option_map Shut (number_of rest)
-line_behind_word word.Fail rest = option_map (λ p. Fail p.0 p.1) (number_and_failure rest)
+abbrev pub line_of_word_with_rest : Word → List ℕ → Option ItemLine
+line_of_word_with_rest word.Config rest = option_map Config (number_of rest)
+line_of_word_with_rest word.At rest = option_map At (moment_of_text rest)
+line_of_word_with_rest word.Accept rest = option_map Accept (number_of rest)
+line_of_word_with_rest word.Client rest = option_map (λ p. Client p.0 p.1) (two_numbers_of_text rest)
+line_of_word_with_rest word.Link rest = option_map (λ p. Link p.0 p.1) (two_numbers_of_text rest)
+line_of_word_with_rest word.End rest = option_map End (number_of rest)
+line_of_word_with_rest word.Gone rest = option_map Gone (number_of rest)
+line_of_word_with_rest word.Retire rest = option_map Retire (number_of rest)
+line_of_word_with_rest word.Overdue rest = option_map Overdue (number_of rest)
+line_of_word_with_rest word.Shut rest = option_map Shut (number_of rest)
+line_of_word_with_rest word.Fail rest = option_map (λ p. Fail p.0 p.1) (number_and_failure rest)
 
 abbrev pub word_of_text : List ℕ → Option Word
 word_of_text text = find (λ word. bytes_eq text (word_text word)) words
 
 abbrev pub line_of_word_and_rest : List ℕ × List ℕ → Option ItemLine
-line_of_word_and_rest p = option_and_then (λ word. line_behind_word word p.1) (word_of_text p.0)
+line_of_word_and_rest p = option_and_then (λ word. line_of_word_with_rest word p.1) (word_of_text p.0)
 
 -- what a line says: its first word, a space, and the rest
 unfoldable pub line_of_text : List ℕ → Option ItemLine
@@ -146,5 +146,5 @@ abbrev pub line_if_allowed_at_position : Bool → ItemLine → Option ItemLine
 line_if_allowed_at_position first header = if same_truth (is_config header) first then Some header else None
 
 -- what a line says, where an item of its kind stands here: the table first, and first alone
-abbrev pub line_allowed_at_position : Bool → List ℕ → Option ItemLine
-line_allowed_at_position first line = option_and_then (line_if_allowed_at_position first) (line_of_text line)
+abbrev pub line_of_text_if_allowed : Bool → List ℕ → Option ItemLine
+line_of_text_if_allowed first line = option_and_then (line_if_allowed_at_position first) (line_of_text line)

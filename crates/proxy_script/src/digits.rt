@@ -4,7 +4,7 @@ ghost use Rattle.std.specs.List.{list_all};
 ghost use Rattle.std.specs.Char.{is_ascii_digit};
 ghost use Rattle.proxy_script.specs.DecimalNumbers.{value_of_digits, number_of};
 
-use hx_fields::number_up_to;
+use hx_fields::digits_value_if_at_most;
 
 fn are_digits(bytes: &[u8]) -> bool
     ensures { result ≡ list_all is_ascii_digit bytes.now }
@@ -16,7 +16,7 @@ fn value_of_digits(bytes: &[u8]) -> Option<u64>
     ensures { result ≡ value_of_digits bytes.now }
 {
     if are_digits(bytes) {
-        number_up_to(u64::MAX, 10, bytes)
+        digits_value_if_at_most(u64::MAX, 10, bytes)
     } else {
         None
     }

@@ -22,5 +22,5 @@ pub use effect_list::{Effect, effects_text};
 pub use happening::Happening;
 pub use items::Item;
 pub use limits::MOST_SCRIPT_BYTES;
-pub use parser::{LeadingItem, read_item};
+pub use parser::{LeadingItemReading, read_item};
 pub use spelling::item_text;

@@ -1,12 +1,13 @@
 //! The lines of a script.
 ghost use Rattle.std.specs.Prelude.{◌≡◌};
-ghost use Rattle.proxy_script.specs.ScriptLines.{moment_of, two_numbers_of_text, number_and_failure, line_behind_word};
+ghost use Rattle.proxy_script.specs.ScriptLines.{moment_of_text, two_numbers_of_text, number_and_failure};
+ghost use Rattle.proxy_script.specs.ScriptLines.{line_of_word_with_rest};
 ghost use Rattle.proxy_script.specs.ScriptLines.{line_of_text};
 ghost use Rattle.proxy_script.specs.ScriptLines.{is_config};
 
 use crate::digits::number_of;
 use crate::first_words::{Word, failure_of, word_of};
-use hx_fields::{END_OF_TIME, split_at_first_byte};
+use hx_fields::{START_OF_YEAR_10000, split_at_first_byte};
 use hx_status::FailKind;
 
 /// The line of an item, with the length of the block that follows where one does.
@@ -25,11 +26,11 @@ pub enum ItemLine {
     Fail(u64, FailKind),
 }
 
-fn moment_of(text: &[u8]) -> Option<u64>
-    ensures { result ≡ moment_of text.now }
+fn moment_of_text(text: &[u8]) -> Option<u64>
+    ensures { result ≡ moment_of_text text.now }
 {
     match number_of(text) {
-        Some(moment) if moment < END_OF_TIME => Some(moment),
+        Some(moment) if moment < START_OF_YEAR_10000 => Some(moment),
         _ => None,
     }
 }
@@ -53,12 +54,12 @@ fn number_and_failure(text: &[u8]) -> Option<(u64, FailKind)>
 }
 
 /// What a line says behind its first word.
-fn line_behind_word(word: Word, rest: &[u8]) -> Option<ItemLine>
-    ensures { result ≡ line_behind_word word rest.now }
+fn line_of_word_with_rest(word: Word, rest: &[u8]) -> Option<ItemLine>
+    ensures { result ≡ line_of_word_with_rest word rest.now }
 {
     Some(match word {
         Word::Config => ItemLine::Config(number_of(rest)?),
-        Word::At => ItemLine::At(moment_of(rest)?),
+        Word::At => ItemLine::At(moment_of_text(rest)?),
         Word::Accept => ItemLine::Accept(number_of(rest)?),
         Word::Client => {
             let (n, len) = two_numbers_of_text(rest)?;
@@ -87,7 +88,7 @@ pub fn line_of_text(line: &[u8]) -> Option<ItemLine>
 {
     let (word, rest) = split_at_first_byte(b' ', line)?;
     let word = word_of(word)?;
-    line_behind_word(word, rest)
+    line_of_word_with_rest(word, rest)
 }
 
 /// Whether the line is that of the operator's table.

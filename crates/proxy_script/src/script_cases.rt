@@ -1,6 +1,6 @@
 //! Worked cases of scripts and effects, computed from the definitions. The format is told in docs/OPERATIONS.md.
 ghost use Rattle.std.specs.Prelude.{◌≡◌, ◌∷◌, [], None, Some, codes, true, false};
-ghost use Rattle.hx_status.specs.Abouts.{about_purge};
+ghost use Rattle.hx_status.specs.Abouts.{purge_status_and_reason};
 ghost use Rattle.hx_status.specs.declared.cause.FailKind.TheVariants.{Refused, TimedOut, Closed};
 ghost use Rattle.hx_status.specs.declared.question.AskedTarget.TheVariants.{AsItCame};
 ghost use Rattle.proxy_script.specs.declared.effect_list.Effect.TheVariants as effect;
@@ -93,7 +93,7 @@ pub fn worked_effects_are_spelled()
     ensures bytes { effects_text (effect.Client 3 (codes "hi") None ∷ effect.Close 3 ∷ [])
         ≡ codes "client 3 2\nhi\nclose 3\n" }
     ensures reply { effect_text (effect.Client 3 (codes "hi") (Some (record {
-      about = about_purge 7;
+      about = purge_status_and_reason 7;
       question = Some (record { method = codes "PURGE"; target = AsItCame (codes "/a") });
     }))) ≡ codes "client 3 2\nhi\n" }
     ensures forward { effect_text

@@ -13,12 +13,12 @@ use Rattle.proxy_engine.specs.declared.work.EngineFault.TheVariants.{OutOfMemory
 use Rattle.proxy_engine.specs.declared.work.End.{End}
 use Rattle.proxy_engine.specs.declared.work.End.TheVariants as ends
 use Rattle.proxy_turn.specs.Turn.{happening_of_loss}
-use Rattle.proxy_turn.specs.Served.{IsLossOfAnEnd, EngineTakesEndLosses, EndLossesAreTakenInOrder}
+use Rattle.proxy_turn.specs.Served.{IsLossTimeoutOrRetirement, EngineTakesEndLosses, EndLossesAreTakenInOrder}
 use Rattle.proxy_record.specs.Records.{RecordSoFar, EachHappeningIsRecorded}
 use Rattle.proxy_record.specs.Recorded.{HappeningIfAnyIsRecorded, is_recording, may_be_taken_while_recording, was_recording_before, recording_had_not_failed}
 use Rattle.proxy_record.specs.RecordedTurns.{recorded_at_moment}
-use Rattle.proxy_server.specs.ServerState.{ServerState, may_lose_an_end}
-use Rattle.proxy_server.specs.Losses.{EndLossIsTaken, EndLossIsRefused, EndLossIfAnyIsTaken, EndLossOfKindIsTaken, EndLossesAreRecorded, AtMostOneEndLossIsTaken, EndLossesAreTakenAndRecorded, ServerTakesEndLosses}
+use Rattle.proxy_server.specs.ServerState.{ServerState, may_take_an_end_loss}
+use Rattle.proxy_server.specs.Losses.{EndLossIsTaken, EndLossIsRefused, EndLossIfAnyIsTakenOrRefused, EndLossOfKindIsTaken, EndLossesAreRecorded, AtMostOneEndLossIsTaken, EndLossesAreTakenAndRecorded, ServerTakesEndLosses}
 
 -- ---- none
 
@@ -54,9 +54,9 @@ notes_one now h None new noted = noted
 notes_one now h (Some r) new noted = (noted.0, noted.1, (noted.0, noted.2, refl))
 
 abbrev may : ServerState → Type 0
-may a = may_lose_an_end a ≡ true
+may a = may_take_an_end_loss a ≡ true
 
-one_on : (h : HappeningModel) (a b : ServerState) → IsLossOfAnEnd h → may a → EndLossIsTaken h a b → ServerTakesEndLosses a b
+one_on : (h : HappeningModel) (a b : ServerState) → IsLossTimeoutOrRetirement h → may a → EndLossIsTaken h a b → ServerTakesEndLosses a b
 one_on h a b loss free taken s represents =
     let took = taken.takes s represents in
     record {
@@ -147,18 +147,18 @@ from_view seen a b is loses = subst (λ (x : ServerState). ServerTakesEndLosses 
 
 pub is_lost : (end : End) (kind : FailKind) (o : Option Happening) (h : Happening) (a b : ServerState) → o ≡ Some h → option_map model_of_happening o ≡ happening_of_loss end kind → EndLossIsTaken (model_of_happening h) a b → EndLossOfKindIsTaken end kind a b
 is_lost end kind o h a b is says taken =
-    subst (λ (l : Option HappeningModel). EndLossIfAnyIsTaken l a b) (sym (ap (option_map model_of_happening) is) ∙ says) (inl taken)
+    subst (λ (l : Option HappeningModel). EndLossIfAnyIsTakenOrRefused l a b) (sym (ap (option_map model_of_happening) is) ∙ says) (inl taken)
 
 pub is_refused : (end : End) (kind : FailKind) (o : Option Happening) (h : Happening) (a b : ServerState) → o ≡ Some h → option_map model_of_happening o ≡ happening_of_loss end kind → EndLossIsRefused (model_of_happening h) a b → EndLossOfKindIsTaken end kind a b
 is_refused end kind o h a b is says refused =
-    subst (λ (l : Option HappeningModel). EndLossIfAnyIsTaken l a b) (sym (ap (option_map model_of_happening) is) ∙ says) (inr refused)
+    subst (λ (l : Option HappeningModel). EndLossIfAnyIsTakenOrRefused l a b) (sym (ap (option_map model_of_happening) is) ∙ says) (inr refused)
 
 pub is_none : (end : End) (kind : FailKind) (o : Option Happening) (a b : ServerState) → o ≡ None → option_map model_of_happening o ≡ happening_of_loss end kind → b ≡ a → EndLossOfKindIsTaken end kind a b
 is_none end kind o a b is says same =
-    subst (λ (l : Option HappeningModel). EndLossIfAnyIsTaken l a b) (sym (ap (option_map model_of_happening) is) ∙ says) same
+    subst (λ (l : Option HappeningModel). EndLossIfAnyIsTakenOrRefused l a b) (sym (ap (option_map model_of_happening) is) ∙ says) same
 
 -- it takes no memory, so it is refused where the engine has no such end, and nowhere else
-loss_takes_none : (h : HappeningModel) → IsLossOfAnEnd h → happening_takes_memory h ≡ true → ⊥
+loss_takes_none : (h : HappeningModel) → IsLossTimeoutOrRetirement h → happening_takes_memory h ≡ true → ⊥
 loss_takes_none (happened.Accepts n) loss is = loss
 loss_takes_none (happened.Sends n bytes) loss is = loss
 loss_takes_none (happened.Hears l bytes) loss is = loss
@@ -173,7 +173,7 @@ stands : (o : Option EngineFault) (fault : EngineFault) → (fault ≡ OutOfMemo
 stands None fault fits is = absurd (fits is)
 stands (Some f) fault fits is = refl
 
-pub refused_where_gone : (h : HappeningModel) (a : ServerState) (r : Result (Unit {0}) EngineFault) (fault : EngineFault) → IsLossOfAnEnd h → r ≡ Err fault
+pub refused_where_gone : (h : HappeningModel) (a : ServerState) (r : Result (Unit {0}) EngineFault) (fault : EngineFault) → IsLossTimeoutOrRetirement h → r ≡ Err fault
     → (r ≡ Err OutOfMemory → happening_takes_memory h ≡ true) → ((s : EngineModel) → EngineRepresents a.engine s → IsFaultOfTakingHappening s h fault)
     → EndLossIsRefused h a a
 refused_where_gone h a r fault loss is memory faults = record {
@@ -184,13 +184,13 @@ refused_where_gone h a r fault loss is memory faults = record {
 some_inj : {x y : HappeningModel} → Some x ≡ Some y → x ≡ y
 some_inj {x} same = ap (λ (o : Option HappeningModel). unwrap_or o x) same
 
-loss_by_end : (e : End) (kind : FailKind) (h : HappeningModel) → Some h ≡ happening_of_loss e kind → IsLossOfAnEnd h
+loss_by_end : (e : End) (kind : FailKind) (h : HappeningModel) → Some h ≡ happening_of_loss e kind → IsLossTimeoutOrRetirement h
 loss_by_end ends.Listener kind h said = absurd cc
-loss_by_end (ends.Client n) kind h said = subst IsLossOfAnEnd (sym (some_inj said)) tt
-loss_by_end (ends.Link l) kind h said = subst IsLossOfAnEnd (sym (some_inj said)) tt
+loss_by_end (ends.Client n) kind h said = subst IsLossTimeoutOrRetirement (sym (some_inj said)) tt
+loss_by_end (ends.Link l) kind h said = subst IsLossTimeoutOrRetirement (sym (some_inj said)) tt
 
 -- an end that is lost is a loss
-pub loss_of_end : (end : End) (kind : FailKind) (o : Option Happening) (h : Happening) → o ≡ Some h → option_map model_of_happening o ≡ happening_of_loss end kind → IsLossOfAnEnd (model_of_happening h)
+pub loss_of_end : (end : End) (kind : FailKind) (o : Option Happening) (h : Happening) → o ≡ Some h → option_map model_of_happening o ≡ happening_of_loss end kind → IsLossTimeoutOrRetirement (model_of_happening h)
 loss_of_end end kind o h is says = loss_by_end end kind (model_of_happening h) (sym (ap (option_map model_of_happening) is) ∙ says)
 
 -- what the engine took was recorded
@@ -224,21 +224,21 @@ did_well (Err fault) ok did = absurd (false≢true ok)
 pub one_taken : (h : HappeningModel) (seen a b : ServerState) (r : Result (Unit {0}) EngineFault) → seen ≡ a → is_ok r ≡ true
     → OnOk r ((s : EngineModel) → EngineRepresents seen.engine s → EngineTakesHappening s h b.engine)
     → (seen.failed ≡ true → b.failed ≡ true) → (b.failed ≡ false → HappeningIfAnyIsRecorded seen.moment (Some h) seen.recorder b.recorder)
-    → b.taken ≡ true → b.moment ≡ seen.moment → b.settled ≡ seen.settled → b.calls ≡ seen.calls → EndLossIfAnyIsTaken (Some h) a b
+    → b.taken ≡ true → b.moment ≡ seen.moment → b.settled ≡ seen.settled → b.calls ≡ seen.calls → EndLossIfAnyIsTakenOrRefused (Some h) a b
 one_taken h seen a b (Ok done) is ok takes fails notes taken moment settled calls =
-    subst (λ (x : ServerState). EndLossIfAnyIsTaken (Some h) x b) is
+    subst (λ (x : ServerState). EndLossIfAnyIsTakenOrRefused (Some h) x b) is
     (inl (record { takes = takes; fails = fails; notes = notes; taken = taken; moment = moment; settled = settled; calls = calls }))
 one_taken h seen a b (Err fault) is ok takes fails notes taken moment settled calls = absurd (false≢true ok)
 
-pub one_refused : (h : HappeningModel) (seen a : ServerState) (e : State) (r : Result (Unit {0}) EngineFault) → seen ≡ a → is_ok r ≡ false → IsLossOfAnEnd h
+pub one_refused : (h : HappeningModel) (seen a : ServerState) (e : State) (r : Result (Unit {0}) EngineFault) → seen ≡ a → is_ok r ≡ false → IsLossTimeoutOrRetirement h
     → (r ≡ Err OutOfMemory → happening_takes_memory h ≡ true) → IfErr r (λ (fault : EngineFault). (s : EngineModel) → EngineRepresents seen.engine s → IsFaultOfTakingHappening s h fault)
-    → OnErr r (e ≡ seen.engine) → EndLossIfAnyIsTaken (Some h) a (record seen { engine = e })
+    → OnErr r (e ≡ seen.engine) → EndLossIfAnyIsTakenOrRefused (Some h) a (record seen { engine = e })
 one_refused h seen a e (Ok done) is failed loss memory faults same = absurd (true≢false failed)
 one_refused h seen a e (Err fault) is failed loss memory faults same =
-    subst (λ (x : ServerState). EndLossIfAnyIsTaken (Some h) x (record seen { engine = e })) is
-    (subst (λ (x : State). EndLossIfAnyIsTaken (Some h) seen (record seen { engine = x })) (sym same)
+    subst (λ (x : ServerState). EndLossIfAnyIsTakenOrRefused (Some h) x (record seen { engine = e })) is
+    (subst (λ (x : State). EndLossIfAnyIsTakenOrRefused (Some h) seen (record seen { engine = x })) (sym same)
     (inr (refused_where_gone h seen (Err fault) fault loss refl memory faults)))
 
-pub one_taken_on : (h : HappeningModel) (a b : ServerState) → IsLossOfAnEnd h → may a → EndLossIfAnyIsTaken (Some h) a b → ServerTakesEndLosses a b
+pub one_taken_on : (h : HappeningModel) (a b : ServerState) → IsLossTimeoutOrRetirement h → may a → EndLossIfAnyIsTakenOrRefused (Some h) a b → ServerTakesEndLosses a b
 one_taken_on h a b loss free (inl taken) = one_on h a b loss free taken
 one_taken_on h a b loss free (inr refused) = none_on a b refused.same

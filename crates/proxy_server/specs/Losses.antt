@@ -34,12 +34,12 @@ pub record EndLossIsRefused (h : HappeningModel) (a b : ServerState) : Type 0 wh
   pub same : b ≡ a
   pub gone : (s : EngineModel) → EngineRepresents a.engine s → is_some (happening_fault s h) ≡ true
 
-abbrev pub EndLossIfAnyIsTaken : Option HappeningModel → ServerState → ServerState → Type 0
-EndLossIfAnyIsTaken None a b = b ≡ a
-EndLossIfAnyIsTaken (Some h) a b = EndLossIsTaken h a b ⊎ EndLossIsRefused h a b
+abbrev pub EndLossIfAnyIsTakenOrRefused : Option HappeningModel → ServerState → ServerState → Type 0
+EndLossIfAnyIsTakenOrRefused None a b = b ≡ a
+EndLossIfAnyIsTakenOrRefused (Some h) a b = EndLossIsTaken h a b ⊎ EndLossIsRefused h a b
 
 abbrev pub EndLossOfKindIsTaken : End → FailKind → ServerState → ServerState → Type 0
-EndLossOfKindIsTaken end kind a b = EndLossIfAnyIsTaken (happening_of_loss end kind) a b
+EndLossOfKindIsTaken end kind a b = EndLossIfAnyIsTakenOrRefused (happening_of_loss end kind) a b
 
 -- each is recorded at this moment, where a record is kept
 abbrev pub EndLossesAreRecorded : ℕ → List HappeningModel → Option RecordSoFar → Option RecordSoFar → Type 0

@@ -1,6 +1,6 @@
 -- What contracts see of a server: its engine, and the record of what that takes.
 --
--- ServerState: what they see      may_lose_an_end: an end may be lost      state_at_turn_start: a turn begins
+-- ServerState: what they see      may_take_an_end_loss: an end may be lost      state_at_turn_start: a turn begins
 -- ServerSocketsMadeCalls: these calls were made on the sockets of the server itself, as it records them
 use Rattle.std.specs.Prelude.{◌≡◌, ℕ, List, Bool, true, false, not, ◌||◌, Option, cond}
 use Rattle.proxy_engine.specs.State.{State}
@@ -22,8 +22,8 @@ pub record ServerState : Type 0 where
   pub calls : Calls
 
 -- An end may be lost in front of the turn: recording hasn't failed, and while a record is written nothing was taken.
-abbrev pub may_lose_an_end : ServerState → Bool
-may_lose_an_end a = may_be_taken_while_recording a.failed a.taken (is_recording a.recorder)
+abbrev pub may_take_an_end_loss : ServerState → Bool
+may_take_an_end_loss a = may_be_taken_while_recording a.failed a.taken (is_recording a.recorder)
 
 -- A turn begins at a moment: while a record is written, at that of the turn before until all is done that was due then.
 abbrev pub state_at_turn_start : ℕ → ServerState → ServerState

@@ -21,4 +21,4 @@ pub use crate::sockets::live_sockets::LiveSockets;
 pub use proxy_ends::Limits;
 pub use proxy_figures::{CountedShelf, ProcessFigures, ProgramFacts, StoreCounts, TroubleCounts};
 pub use proxy_listener::ListenAt;
-pub use proxy_record::{RecordFault, Recorder, Recording};
+pub use proxy_record::{RecordFault, RecordedSockets, Recorder};

@@ -1,15 +1,15 @@
 //! Whether the next turn waits, and what clocks tell.
 ghost use Rattle.std.specs.Prelude.{◌≡◌};
-ghost use Rattle.proxy_server.specs.Paces.{pace_after_turn, moment_and_milliseconds};
-ghost use Rattle.proxy_server.specs.Paces.{milliseconds_of_duration, turn_end_of};
+ghost use Rattle.proxy_server.specs.Paces.{work_left_after_turn, moment_and_milliseconds};
+ghost use Rattle.proxy_server.specs.Paces.{milliseconds_of_duration, turn_end_of_report};
 
-use hx_fields::END_OF_TIME;
+use hx_fields::START_OF_YEAR_10000;
 use proxy_figures::TurnEnd;
 use proxy_turn::{MOST_ACTS_OF_A_TURN, Report, TurnFault};
 use std::time::Duration;
 
 /// The last moment.
-pub(crate) const LATEST_MOMENT: u64 = END_OF_TIME - 1;
+pub(crate) const LATEST_MOMENT: u64 = START_OF_YEAR_10000 - 1;
 
 /// What a turn leaves to the next.
 #[derive(Clone, Copy, PartialEq, Eq)]
@@ -27,7 +27,7 @@ pub(crate) struct WorkLeftForNextTurn {
 impl WorkLeftForNextTurn {
     /// Takes what a turn told. `more` says that there is something to take.
     pub(crate) fn note(&mut self, reported: Result<Report, TurnFault>, more: bool)
-        ensures { self.new ≡ pace_after_turn self.old reported more }
+        ensures { self.new ≡ work_left_after_turn self.old reported more }
     {
         self.starved = false;
         match reported {
@@ -50,8 +50,8 @@ impl WorkLeftForNextTurn {
 }
 
 /// How a turn counts, by what it told.
-pub(crate) fn turn_end_of(reported: Result<Report, TurnFault>) -> TurnEnd
-    ensures { result ≡ turn_end_of reported }
+pub(crate) fn turn_end_of_report(reported: Result<Report, TurnFault>) -> TurnEnd
+    ensures { result ≡ turn_end_of_report reported }
 {
     match reported {
         Err(TurnFault::Listener) => TurnEnd::WithoutListener,

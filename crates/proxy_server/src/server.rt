@@ -3,22 +3,22 @@ ghost use Rattle.std.specs.Prelude.{◌≡◌, ◌<◌, ◌||◌, Bool, true, fa
 ghost use Rattle.std.specs.Prelude.{option_copied, option_map};
 ghost use Rattle.proxy_engine.specs.Happenings.{Overdues, Retires};
 ghost use Rattle.hx_allow.specs.Tables.{TableWasRead};
-ghost use Rattle.hx_fields.specs.declared.limits.TheConstants.{END_OF_TIME};
+ghost use Rattle.hx_fields.specs.declared.limits.TheConstants.{START_OF_YEAR_10000};
 ghost use Rattle.proxy_engine.specs.Beginnings.{ResponsesMayBeHeldAtStart, engine_model_at_start};
 ghost use Rattle.proxy_engine.specs.EngineModel.{EngineModel};
 ghost use Rattle.proxy_engine.specs.State.{EngineRepresents, new_engine_model};
 ghost use Rattle.proxy_turn.specs.Served.{EngineHasServedAGoodRun, EngineContinues};
-ghost use Rattle.proxy_server.specs.Losses.{EndLossOfKindIsTaken, EndLossIfAnyIsTaken, ServerTakesEndLosses};
+ghost use Rattle.proxy_server.specs.Losses.{EndLossOfKindIsTaken, EndLossIfAnyIsTakenOrRefused, ServerTakesEndLosses};
 ghost use Rattle.proxy_log.specs.Asked.{asked_words};
 ghost use Rattle.proxy_server.specs.OpenRequests.{open_request_of_end, words_of_open_request};
-ghost use Rattle.proxy_server.specs.Paces.{pace_after_turn};
-ghost use Rattle.proxy_server.specs.ServerState.{may_lose_an_end};
-ghost use Rattle.proxy_server.specs.Serving.{turn_left_nothing_due, ServeTurnAnswers, ServerServesTurn};
+ghost use Rattle.proxy_server.specs.Paces.{work_left_after_turn};
+ghost use Rattle.proxy_server.specs.ServerState.{may_take_an_end_loss};
+ghost use Rattle.proxy_server.specs.Serving.{turn_left_no_act_due, ServeTurnResultIsTruthful, ServerServesTurn};
 
 use crate::pace::{WorkLeftForNextTurn, milliseconds_of_duration, moment_and_milliseconds};
 use crate::sockets::live_sockets::LiveSockets;
-use hx_allow::Config;
-use hx_fields::END_OF_TIME;
+use hx_allow::Table;
+use hx_fields::START_OF_YEAR_10000;
 use hx_hop::Asked;
 use hx_status::FailKind;
 use hx_store::Shelf;
@@ -26,11 +26,11 @@ use proxy_ends::{MOST_ACCEPTED_PER_TURN, MOST_ENDS_READ_PER_TURN, MOST_OPEN_CONN
 use proxy_engine::Engine;
 use proxy_figures::TroubleCounts;
 use proxy_log::{Lines, LoggedRequest, LoggedTarget};
-use proxy_record::{RecordFault, Recorder, Recording};
+use proxy_record::{RecordFault, RecordedSockets, Recorder};
 use proxy_script::Happening;
 use proxy_turn::laws::{a_reachable_engine_stays_reachable, a_turn_is_served_after_end_losses};
 use proxy_turn::{
-    End, PIECE, Report, TurnBounds, TurnFault, happening_of_lost_end, turn_over_ends,
+    End, PIECE, Report, TurnAcceptBounds, TurnFault, happening_of_lost_end, turn_over_given_ends,
 };
 use std::alloc::Global;
 use std::io::{ErrorKind, Write};
@@ -86,7 +86,7 @@ pub struct ServedTurn {
 pub struct Server<'a, S: Shelf + Drop, R: Net, W: Write + Drop> {
     alloc: Global,
     engine: Engine<S>,
-    pub(crate) ends: Recording<LiveSockets<'a, R>, W>,
+    pub(crate) ends: RecordedSockets<LiveSockets<'a, R>, W>,
     pace: WorkLeftForNextTurn,
     /// The ends that a turn reads.
     ready: Vec<End>,
@@ -96,7 +96,7 @@ pub struct Server<'a, S: Shelf + Drop, R: Net, W: Write + Drop> {
 
 impl<'a, S: Shelf + Drop, R: Net, W: Write + Drop> Model for Server<'a, S, R, W> {
     ghost use Rattle.std.specs.Prelude.{◌<◌, is_some};
-    ghost use Rattle.hx_fields.specs.declared.limits.TheConstants.{END_OF_TIME};
+    ghost use Rattle.hx_fields.specs.declared.limits.TheConstants.{START_OF_YEAR_10000};
     ghost use Rattle.proxy_turn.specs.Counts.{calls};
     ghost use Rattle.proxy_turn.specs.Served.{EngineIsReachable};
     ghost use Rattle.proxy_server.specs.ServerState.{ServerState};
@@ -113,12 +113,12 @@ impl<'a, S: Shelf + Drop, R: Net, W: Write + Drop> Model for Server<'a, S, R, W>
       calls = calls s.ends.accepts s.ends.reads s.ends.failures;
     } };
 
-    ghost invariant = { λ s. EngineIsReachable s.engine × (s.ends.moment < END_OF_TIME) };
+    ghost invariant = { λ s. EngineIsReachable s.engine × (s.ends.moment < START_OF_YEAR_10000) };
 }
 
 /// The moment of a clock, in Unix seconds, and its milliseconds; 0 before 1970.
 fn moment<C: Clock>(clock: &C) -> Result<(u64, u64), ServeFault>
-    ensures { IfOk result (λ now. now.0 < END_OF_TIME) }
+    ensures { IfOk result (λ now. now.0 < START_OF_YEAR_10000) }
 {
     match clock.since_1970() {
         Ok(now) => Ok(moment_and_milliseconds(now)),
@@ -139,13 +139,13 @@ fn elapsed<C: Clock>(clock: &C) -> Result<u64, ServeFault> {
 /// was passed over waits for none.
 fn look_ahead<R: Net, W: Write + Drop>(
     pace: &mut WorkLeftForNextTurn,
-    ends: &Recording<LiveSockets<'_, R>, W>,
+    ends: &RecordedSockets<LiveSockets<'_, R>, W>,
     reported: Result<Report, TurnFault>,
 )
-    ensures { (free : Bool) × (pace.new ≡ pace_after_turn pace.old reported (free || ends.now.passed)) }
+    ensures { (free : Bool) × (pace.new ≡ work_left_after_turn pace.old reported (free || ends.now.passed)) }
 {
     let free = ends.sockets.has_more();
-    pace.note(reported, free || ends.has_skipped_an_end());
+    pace.note(reported, free || ends.has_skipped_a_readable_end());
 }
 
 /// What an open request asks for, as a line of the log names it.
@@ -176,7 +176,7 @@ fn next_client<R: Net>(sockets: &mut LiveSockets<'_, R>, sweep: Sweep) -> Option
 {
     match sweep {
         Sweep::Overdue => None,
-        Sweep::Departed => sockets.next_half_closed(),
+        Sweep::Departed => sockets.next_half_closed_when_crowded(),
         Sweep::GiveWay => sockets.next_to_drop_for_room(),
         Sweep::Retire => sockets.next_to_retire(),
         Sweep::LetGo => sockets.next_idle_to_close(),
@@ -208,7 +208,7 @@ impl<'a, S: Shelf + Drop, R: Net, W: Write + Drop> Server<'a, S, R, W> {
     /// of stored responses and numbers of links begin at 1. The first turn doesn't wait.
     pub fn new(
         alloc: Global,
-        config: Config,
+        config: Table,
         shelf: S,
         sockets: LiveSockets<'a, R>,
         recorder: Option<Recorder<W>>,
@@ -233,7 +233,7 @@ impl<'a, S: Shelf + Drop, R: Net, W: Write + Drop> Server<'a, S, R, W> {
         Server {
             alloc,
             engine: Engine::new(alloc, config, shelf, 1, 1),
-            ends: Recording::new(sockets, recorder),
+            ends: RecordedSockets::new(sockets, recorder),
             pace: WorkLeftForNextTurn {
                 busy: true,
                 settled: true,
@@ -249,7 +249,7 @@ impl<'a, S: Shelf + Drop, R: Net, W: Write + Drop> Server<'a, S, R, W> {
     /// which the serials go on, and within the bounds of the table.
     pub fn with_store(
         alloc: Global,
-        config: Config,
+        config: Table,
         shelf: S,
         first_serial: u64,
         sockets: LiveSockets<'a, R>,
@@ -266,7 +266,7 @@ impl<'a, S: Shelf + Drop, R: Net, W: Write + Drop> Server<'a, S, R, W> {
     {
         a_reachable_engine_stays_reachable();
         config.was_read();
-        let ends = Recording::new(sockets, recorder);
+        let ends = RecordedSockets::new(sockets, recorder);
         Server {
             alloc,
             engine: Engine::with_store(alloc, config, shelf, first_serial, 1),
@@ -291,7 +291,7 @@ impl<'a, S: Shelf + Drop, R: Net, W: Write + Drop> Server<'a, S, R, W> {
 
     /// Ends the server, and gives its shelf with what it holds, and the next serial if one is left: what another server
     /// may begin with, where no request is open.
-    pub fn into_shelf_and_serial(self) -> (S, Option<u64>)
+    pub fn into_shelf_and_next_serial(self) -> (S, Option<u64>)
         ensures entries { S.entries result.0 ≡ self.entry.engine.core.entries }
         ensures limit { S.limit result.0 ≡ self.entry.engine.core.limit }
         ensures next { result.1 ≡ self.entry.engine.core.next }
@@ -304,7 +304,7 @@ impl<'a, S: Shelf + Drop, R: Net, W: Write + Drop> Server<'a, S, R, W> {
             ready: _,
             piece: _,
         } = self;
-        engine.into_shelf_and_serial()
+        engine.into_shelf_and_next_serial()
     }
 
     /// Seconds of the clock that never goes back, at the last turn.
@@ -343,8 +343,8 @@ impl<'a, S: Shelf + Drop, R: Net, W: Write + Drop> Server<'a, S, R, W> {
     ///
     /// After it, also after an `Err`, what the engine had lived through has gone on by the steps of that turn and no
     /// others, and the steps of its core are a good run by its table, over a store of its capacity, with the headline.
-    pub fn serve_turn<C: Clock>(&mut self, clock: &C) -> Result<ServedTurn, ServeFault>
-        ensures served { ServeTurnAnswers self.old self.new result }
+    pub fn wait_and_serve_turn<C: Clock>(&mut self, clock: &C) -> Result<ServedTurn, ServeFault>
+        ensures served { ServeTurnResultIsTruthful self.old self.new result }
         ensures goes_on { EngineContinues self.old.engine self.new.engine }
         ensures serves { EngineHasServedAGoodRun self.new.engine }
         ensures table { self.new.engine.core.table ≡ self.old.engine.core.table }
@@ -359,7 +359,7 @@ impl<'a, S: Shelf + Drop, R: Net, W: Write + Drop> Server<'a, S, R, W> {
 
     /// Waits, and serves a turn.
     fn serve_next<C: Clock>(&mut self, clock: &C) -> Result<ServedTurn, ServeFault>
-        ensures { ServeTurnAnswers self.old self.new result }
+        ensures { ServeTurnResultIsTruthful self.old self.new result }
     {
         let waited = self.ends.sockets.wait(self.pace.busy, self.pace.starved);
         if waited.is_err() {
@@ -381,12 +381,12 @@ impl<'a, S: Shelf + Drop, R: Net, W: Write + Drop> Server<'a, S, R, W> {
         now: u64,
         milliseconds: u64,
     ) -> Result<ServedTurn, ServeFault>
-        requires { now < END_OF_TIME }
-        ensures { ServeTurnAnswers self.old self.new result }
+        requires { now < START_OF_YEAR_10000 }
+        ensures { ServeTurnResultIsTruthful self.old self.new result }
     {
         if self.ends.sockets.refresh(elapsed) {
             // What came before counts before an end is called silent, though the proxy was halted meanwhile.
-            if self.ends.sockets.look_again().is_err() {
+            if self.ends.sockets.poll_without_waiting().is_err() {
                 return Err(ServeFault::Socket);
             }
             self.pace.sweeping = true;
@@ -408,7 +408,7 @@ impl<'a, S: Shelf + Drop, R: Net, W: Write + Drop> Server<'a, S, R, W> {
 
     /// Hands in what happened since the last turn, and then takes one at a moment.
     fn turn_at(&mut self, now: u64) -> Result<Report, TurnFault>
-        requires early { now < END_OF_TIME }
+        requires early { now < START_OF_YEAR_10000 }
         requires moment { now ≡ self.old.moment }
         ensures { ServerServesTurn self.old self.new result }
     {
@@ -416,11 +416,11 @@ impl<'a, S: Shelf + Drop, R: Net, W: Write + Drop> Server<'a, S, R, W> {
         a_turn_is_served_after_end_losses();
         self.hand_in();
         self.take_ready_ends();
-        let bounds = TurnBounds {
+        let bounds = TurnAcceptBounds {
             most_open: MOST_OPEN_CONNECTIONS,
             most_accepts: MOST_ACCEPTED_PER_TURN,
         };
-        turn_over_ends(
+        turn_over_given_ends(
             &mut self.engine,
             &mut self.ends,
             self.alloc,
@@ -448,15 +448,17 @@ impl<'a, S: Shelf + Drop, R: Net, W: Write + Drop> Server<'a, S, R, W> {
 
     /// Whether the next turn has to wait, by what this one told.
     fn look_ahead(&mut self, reported: Result<Report, TurnFault>)
-        ensures { self.new ≡ record self.old { settled = turn_left_nothing_due reported } }
+        ensures { self.new ≡ record self.old { settled = turn_left_no_act_due reported } }
     {
-        self.ends.sockets.note_turn(&self.ready, reported);
+        self.ends
+            .sockets
+            .requeue_ends_after_turn(&self.ready, reported);
         look_ahead(&mut self.pace, &self.ends, reported);
     }
 
     /// The engine takes that an end is lost, and that is recorded.
     fn disconnect(&mut self, end: End, kind: FailKind)
-        requires { may_lose_an_end self.old ≡ true }
+        requires { may_take_an_end_loss self.old ≡ true }
         ensures loses { EndLossOfKindIsTaken end kind self.old self.new }
         ensures on { ServerTakesEndLosses self.old self.new }
     {
@@ -479,8 +481,8 @@ impl<'a, S: Shelf + Drop, R: Net, W: Write + Drop> Server<'a, S, R, W> {
 
     /// The engine takes that a client's connection is to end, and that is recorded.
     fn retire(&mut self, n: u64)
-        requires { may_lose_an_end self.old ≡ true }
-        ensures retires { EndLossIfAnyIsTaken (Some (Retires n)) self.old self.new }
+        requires { may_take_an_end_loss self.old ≡ true }
+        ensures retires { EndLossIfAnyIsTakenOrRefused (Some (Retires n)) self.old self.new }
         ensures on { ServerTakesEndLosses self.old self.new }
     {
         a_reachable_engine_stays_reachable();
@@ -494,8 +496,8 @@ impl<'a, S: Shelf + Drop, R: Net, W: Write + Drop> Server<'a, S, R, W> {
     /// The engine takes that the request of a client has waited for the answer to another as long as it is to wait, and
     /// that is recorded.
     fn overdue(&mut self, n: u64)
-        requires { may_lose_an_end self.old ≡ true }
-        ensures overdue { EndLossIfAnyIsTaken (Some (Overdues n)) self.old self.new }
+        requires { may_take_an_end_loss self.old ≡ true }
+        ensures overdue { EndLossIfAnyIsTakenOrRefused (Some (Overdues n)) self.old self.new }
         ensures on { ServerTakesEndLosses self.old self.new }
     {
         a_reachable_engine_stays_reachable();
@@ -528,7 +530,7 @@ impl<'a, S: Shelf + Drop, R: Net, W: Write + Drop> Server<'a, S, R, W> {
                 return;
             };
             self.release_room(end);
-            let _ = self.has_waited_seconds(end);
+            let _ = self.has_waited_seconds_for_another(end);
         }
     }
 
@@ -541,7 +543,7 @@ impl<'a, S: Shelf + Drop, R: Net, W: Write + Drop> Server<'a, S, R, W> {
             if !self.ends.may_take_a_happening() {
                 return;
             }
-            if let Some((end, kind)) = self.ends.sockets.take_lost_client() {
+            if let Some((end, kind)) = self.ends.sockets.take_lost_end() {
                 self.disconnect(end, kind);
             }
         }
@@ -572,7 +574,7 @@ impl<'a, S: Shelf + Drop, R: Net, W: Write + Drop> Server<'a, S, R, W> {
                 self.engine.may_read(end) && self.ends.sockets.links.is_over(l, now, &limits)
             }
             End::Client(n) => {
-                if self.engine.is_between_requests(n) {
+                if self.engine.is_client_between_requests(n) {
                     self.ends.sockets.clients.is_silent(n, now)
                 } else if self.engine.may_read(end) {
                     self.ends.sockets.clients.is_late_or_silent(n, now)
@@ -585,7 +587,7 @@ impl<'a, S: Shelf + Drop, R: Net, W: Write + Drop> Server<'a, S, R, W> {
 
     /// Drops the stream of an end whose time is over: the engine takes that it is lost, a link as timed out.
     fn release(&mut self, end: End)
-        requires { may_lose_an_end self.old ≡ true }
+        requires { may_take_an_end_loss self.old ≡ true }
         ensures loses { EndLossOfKindIsTaken end FailKind.TimedOut self.old self.new }
         ensures on { ServerTakesEndLosses self.old self.new }
     {
@@ -596,7 +598,7 @@ impl<'a, S: Shelf + Drop, R: Net, W: Write + Drop> Server<'a, S, R, W> {
     /// The end that a sweep finds next, if it can be handed in.
     fn next_found(&mut self, sweep: Sweep) -> Option<End>
         ensures same { self.new ≡ self.old }
-        ensures may { IfSome result (λ end. may_lose_an_end self.old ≡ true) }
+        ensures may { IfSome result (λ end. may_take_an_end_loss self.old ≡ true) }
     {
         if !self.ends.may_take_a_happening() {
             return None;
@@ -619,7 +621,7 @@ impl<'a, S: Shelf + Drop, R: Net, W: Write + Drop> Server<'a, S, R, W> {
 
     /// Whether the request of a client has waited for the answer to another as long as the line over which it came
     /// says. One that hasn't is looked at once it has.
-    fn has_waited_seconds(&mut self, end: End) -> bool
+    fn has_waited_seconds_for_another(&mut self, end: End) -> bool
         ensures { self.new ≡ self.old }
     {
         let End::Client(n) = end else {
@@ -631,7 +633,7 @@ impl<'a, S: Shelf + Drop, R: Net, W: Write + Drop> Server<'a, S, R, W> {
                 self.ends
                     .sockets
                     .clients
-                    .has_waited_seconds(n, seconds, now)
+                    .has_waited_seconds_for_another(n, seconds, now)
             }
             None => false,
         }
@@ -639,11 +641,11 @@ impl<'a, S: Shelf + Drop, R: Net, W: Write + Drop> Server<'a, S, R, W> {
 
     /// Hands in that a client's request waits no longer, if it has waited for long enough.
     fn end_wait(&mut self, end: End)
-        requires { may_lose_an_end self.old ≡ true }
+        requires { may_take_an_end_loss self.old ≡ true }
         ensures { ServerTakesEndLosses self.old self.new }
     {
         a_turn_is_served_after_end_losses();
-        if self.has_waited_seconds(end) {
+        if self.has_waited_seconds_for_another(end) {
             if let End::Client(n) = end {
                 self.overdue(n);
             }
@@ -653,7 +655,7 @@ impl<'a, S: Shelf + Drop, R: Net, W: Write + Drop> Server<'a, S, R, W> {
     /// Hands in an end whose time is over: a link as timed out, a client as gone, a request that waits for another's
     /// answer as overdue.
     fn look_at(&mut self, end: End)
-        requires { may_lose_an_end self.old ≡ true }
+        requires { may_take_an_end_loss self.old ≡ true }
         ensures { ServerTakesEndLosses self.old self.new }
     {
         a_turn_is_served_after_end_losses();
@@ -668,7 +670,7 @@ impl<'a, S: Shelf + Drop, R: Net, W: Write + Drop> Server<'a, S, R, W> {
 
     /// Gives up the answer of a client that has sent its end, if it waits for one.
     fn give_up(&mut self, n: u64)
-        requires { may_lose_an_end self.old ≡ true }
+        requires { may_take_an_end_loss self.old ≡ true }
         ensures { ServerTakesEndLosses self.old self.new }
     {
         a_turn_is_served_after_end_losses();
@@ -682,7 +684,7 @@ impl<'a, S: Shelf + Drop, R: Net, W: Write + Drop> Server<'a, S, R, W> {
     /// Closes the connection of a client whose request isn't whole. One whose request is whole waits for its answer:
     /// that one stays.
     fn cut_incomplete(&mut self, n: u64)
-        requires { may_lose_an_end self.old ≡ true }
+        requires { may_take_an_end_loss self.old ≡ true }
         ensures { ServerTakesEndLosses self.old self.new }
     {
         a_turn_is_served_after_end_losses();
@@ -694,7 +696,7 @@ impl<'a, S: Shelf + Drop, R: Net, W: Write + Drop> Server<'a, S, R, W> {
 
     /// Lets a client go that is between two requests.
     fn let_go(&mut self, n: u64)
-        requires { may_lose_an_end self.old ≡ true }
+        requires { may_take_an_end_loss self.old ≡ true }
         ensures { ServerTakesEndLosses self.old self.new }
     {
         let now = self.ends.sockets.now;
@@ -704,7 +706,7 @@ impl<'a, S: Shelf + Drop, R: Net, W: Write + Drop> Server<'a, S, R, W> {
 
     /// Hands in an end that a sweep has found. A link is found by its time alone.
     fn take_found(&mut self, sweep: Sweep, end: End)
-        requires { may_lose_an_end self.old ≡ true }
+        requires { may_take_an_end_loss self.old ≡ true }
         ensures { ServerTakesEndLosses self.old self.new }
     {
         let End::Client(n) = end else {

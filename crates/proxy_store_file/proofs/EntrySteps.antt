@@ -7,7 +7,7 @@ use Rattle.proxy_store_file.specs.declared.heads.Head.{Head}
 use Rattle.proxy_store_file.specs.declared.pieces.ReadStop.{ReadStop}
 use Rattle.proxy_store_file.specs.declared.pieces.ReadStop.TheVariants as stop
 use Rattle.proxy_store_file.specs.Heads.{head_spelled_in, stored_with_content}
-use Rattle.proxy_store_file.specs.Parts.{most_head_bytes}
+use Rattle.proxy_store_file.specs.Parts.{most_entry_head_bytes}
 use Rattle.proxy_store_file.specs.Streams.{ReaderGaveBytes, EightBytesGaveNumber, ReaderStoppedShort, EntryIsRead, IsLessThanAnEntry, reading_of_entry}
 use Rattle.proxy_store_file.proofs.EntryLaws.{entry_cut, entry_too_long, head_cut, entry_shapeless, content_cut, entry_found}
 use Rattle.proxy_store_file.proofs.Given.{gave_more, stops_for_memory}
@@ -31,7 +31,7 @@ pub record HeadGiven (a c : Option (List ℕ)) (h0 h2 : DefaultHasher) (text : L
   pub gave : ReaderGaveBytes a c h0 h2 (eight ++ text)
   pub long : length eight ≡ 8
   pub spelled : is_number eight ≡ true
-  pub fits : number_of eight ≤ most_head_bytes
+  pub fits : number_of eight ≤ most_entry_head_bytes
   pub whole : length text ≡ number_of eight
 
 pub stops_in_head : (a b c : Option (List ℕ)) (h0 h1 : DefaultHasher) (n : ℕ) (why : ReadStop) → EightBytesGaveNumber a b h0 h1 n → n ≤ 524288

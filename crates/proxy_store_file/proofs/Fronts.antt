@@ -2,13 +2,13 @@
 use Rattle.std.proofs.Common.{◌≡◌, ◌≢◌, ℕ, ◌<◌, List, [], ◌++◌, length, refl, ap, sym, ◌∙◌, subst, true, false, Option, Ok, Err, append_assoc, append-nil}
 use Rattle.std.specs.declared.hash.DefaultHasher.{DefaultHasher}
 use Rattle.std.proofs.KnownBytes.{Consumes-trans}
-use Rattle.proxy_store_file.specs.declared.store_faults.StoreFault.{StoreFault}
-use Rattle.proxy_store_file.specs.declared.store_faults.StoreFault.TheVariants as fault
+use Rattle.proxy_store_file.specs.declared.store_faults.StoreReadFault.{StoreReadFault}
+use Rattle.proxy_store_file.specs.declared.store_faults.StoreReadFault.TheVariants as fault
 use Rattle.proxy_store_file.specs.declared.pieces.ReadStop.{ReadStop}
 use Rattle.proxy_store_file.specs.declared.pieces.ReadStop.TheVariants as stop
 use Rattle.proxy_store_file.specs.Texts.{cut}
-use Rattle.proxy_store_file.specs.Stores.{StoreReading, or_short_file_fault}
-use Rattle.proxy_store_file.specs.Streams.{ReaderGaveBytes, ReaderStoppedShort, ReaderGaveReading, ReadingStopsEarly, ReadingIsUnfinished, ReaderIsRefusedFor, FileFrontIsRead, fault_of_stop}
+use Rattle.proxy_store_file.specs.Stores.{StoreReading, reading_or_short_file_fault}
+use Rattle.proxy_store_file.specs.Streams.{ReaderGaveBytes, ReaderStoppedShort, ReaderGaveReading, ReadingStopsEarly, ReadingIsWholeOrTooShort, ReaderIsRefusedFor, FileFrontIsRead, fault_of_stop}
 use Rattle.proxy_store_file.proofs.TextLaws.{cut_again}
 use Rattle.proxy_store_file.proofs.EntryLaws.{cut_short}
 use Rattle.proxy_store_file.proofs.Given.{gave_more}
@@ -34,9 +34,9 @@ stops_behind read K a b c h0 h1 P f r = record {
   reads = subst P (sym (f.reads r.bytes)) r.reads;
 }
 
-pub refused_behind : (read : List ℕ → StoreReading) (K : List ℕ → List ℕ → StoreReading) (a b c : Bytes) (h0 h1 : DefaultHasher) (x : StoreFault)
+pub refused_behind : (read : List ℕ → StoreReading) (K : List ℕ → List ℕ → StoreReading) (a b c : Bytes) (h0 h1 : DefaultHasher) (x : StoreReadFault)
     (f : FileFrontIsRead read K a b h0 h1) → ReaderIsRefusedFor (λ rest. K (f.bytes ++ rest) rest) b c x → ReaderIsRefusedFor read a c x
-refused_behind read K a b c h0 h1 fault.Read f r = stops_behind read K a b c h0 h1 ReadingIsUnfinished f r
+refused_behind read K a b c h0 h1 fault.Read f r = stops_behind read K a b c h0 h1 ReadingIsWholeOrTooShort f r
 refused_behind read K a b c h0 h1 fault.OutOfMemory f r = stops_behind read K a b c h0 h1 (λ reading. Unit {0}) f r
 refused_behind read K a b c h0 h1 x f r = read_behind read K a b c h0 h1 (Err x) f r
 
@@ -73,7 +73,7 @@ pub front_for_memory : (read : List ℕ → StoreReading) (K : List ℕ → List
 front_for_memory read K a b h0 h1 f = record { bytes = f.bytes; consumes = f.gave.consumes; reads = tt }
 
 -- a fault that isn't the reader's own
-pub refused_by_reading : (read : List ℕ → StoreReading) (a b : Bytes) (f : StoreFault) → f ≢ fault.Read → f ≢ fault.OutOfMemory → ReaderGaveReading read a b (Err f) → ReaderIsRefusedFor read a b f
+pub refused_by_reading : (read : List ℕ → StoreReading) (a b : Bytes) (f : StoreReadFault) → f ≢ fault.Read → f ≢ fault.OutOfMemory → ReaderGaveReading read a b (Err f) → ReaderIsRefusedFor read a b f
 refused_by_reading read a b fault.Read p q r = absurd (p refl)
 refused_by_reading read a b fault.OutOfMemory p q r = absurd (q refl)
 refused_by_reading read a b f p q r = r
@@ -91,25 +91,25 @@ stopped read few a b n stop.Ended s short = record {
 stopped read few a b n stop.Failed s short = record {
   bytes = s.bytes;
   consumes = s.consumes;
-  reads = subst ReadingIsUnfinished (sym (short s.bytes (s.few (λ e. absurd (cc))))) (n, refl);
+  reads = subst ReadingIsWholeOrTooShort (sym (short s.bytes (s.few (λ e. absurd (cc))))) (n, refl);
 }
 stopped read few a b n stop.OutOfMemory s short = record { bytes = s.bytes; consumes = s.consumes; reads = tt }
 
 -- eight more bytes
 pub front_cut : (read : List ℕ → StoreReading) (K : List ℕ → List ℕ → List ℕ → StoreReading) (n : ℕ) (a b c : Bytes) (h0 h1 h2 : DefaultHasher) (eight : List ℕ)
-    → FileFrontIsRead read (λ text rest. or_short_file_fault n (cut 8 rest) (K text)) a b h0 h1 → ReaderGaveBytes b c h1 h2 eight → length eight ≡ 8
+    → FileFrontIsRead read (λ text rest. reading_or_short_file_fault n (cut 8 rest) (K text)) a b h0 h1 → ReaderGaveBytes b c h1 h2 eight → length eight ≡ 8
     → FileFrontIsRead read (λ text rest. K text eight rest) a c h0 h2
 front_cut read K n a b c h0 h1 h2 eight f given long =
-    front_behind read (λ text rest. or_short_file_fault n (cut 8 rest) (K text)) (λ text rest. K text eight rest) a b c h0 h1 h2 f (record {
+    front_behind read (λ text rest. reading_or_short_file_fault n (cut 8 rest) (K text)) (λ text rest. K text eight rest) a b c h0 h1 h2 f (record {
       bytes = eight;
       gave = given;
-      reads = λ more. ap (λ (o : Option (List ℕ × List ℕ)). or_short_file_fault n o (K (f.bytes ++ (eight ++ more)))) (cut_again eight more 8 long);
+      reads = λ more. ap (λ (o : Option (List ℕ × List ℕ)). reading_or_short_file_fault n o (K (f.bytes ++ (eight ++ more)))) (cut_again eight more 8 long);
     })
 
 pub front_stops : (read : List ℕ → StoreReading) (K : List ℕ → List ℕ → List ℕ → StoreReading) (n : ℕ) (a b c : Bytes) (h0 h1 : DefaultHasher) (why : ReadStop)
-    → FileFrontIsRead read (λ text rest. or_short_file_fault n (cut 8 rest) (K text)) a b h0 h1 → ReaderStoppedShort (λ bytes. length bytes < 8) b c why
+    → FileFrontIsRead read (λ text rest. reading_or_short_file_fault n (cut 8 rest) (K text)) a b h0 h1 → ReaderStoppedShort (λ bytes. length bytes < 8) b c why
     → ReaderIsRefusedFor read a c (fault_of_stop n why)
 front_stops read K n a b c h0 h1 why f s =
-    refused_behind read (λ text rest. or_short_file_fault n (cut 8 rest) (K text)) a b c h0 h1 (fault_of_stop n why) f
-    (stopped (λ rest. or_short_file_fault n (cut 8 rest) (K (f.bytes ++ rest))) (λ bytes. length bytes < 8) b c n why s
-    (λ bytes few. ap (λ (o : Option (List ℕ × List ℕ)). or_short_file_fault n o (K (f.bytes ++ bytes))) (cut_short 8 bytes few)))
+    refused_behind read (λ text rest. reading_or_short_file_fault n (cut 8 rest) (K text)) a b c h0 h1 (fault_of_stop n why) f
+    (stopped (λ rest. reading_or_short_file_fault n (cut 8 rest) (K (f.bytes ++ rest))) (λ bytes. length bytes < 8) b c n why s
+    (λ bytes few. ap (λ (o : Option (List ℕ × List ℕ)). reading_or_short_file_fault n o (K (f.bytes ++ bytes))) (cut_short 8 bytes few)))

@@ -10,7 +10,7 @@ use Rattle.hx_age.specs.declared.moments.Times.{Times}
 use Rattle.hx_vary.specs.declared.nominated_values.NominatedValue.{NominatedValue}
 use Rattle.proxy_store_file.specs.declared.heads.Head.{Head}
 use Rattle.proxy_store_file.specs.Texts.{number_spelling, text_spelling, leading_number, leading_text, cut, after}
-use Rattle.proxy_store_file.specs.Heads.{times_spelling, key_spelling, nominated_text_spelling, nominated_value_spelling, nominated_spelling, line_spelling, lines_spelling, numbers_spelling, head_spelling, below, leading_number_below, times_with_response, times_with_request, times_with_age, times_with_date, leading_times, times_with_purge, stored_times_with_purge_if_any, purge_spelling, key_with_path, key_with_host_and_rest, key_with_port, leading_key, some_value, value_after_length, leading_value, nominated_value_with_text, nominated_value_with_name, leading_nominated_value, leading_nominated_values_after, leading_nominated_values, line_with_value, line_with_name, leading_line, leading_lines_after, leading_lines, whole, empty_head, head_with_lines, head_with_nominated, head_with_key, head_with_times, head_with_length, head_with_status, head_with_serial, head_spelled_in}
+use Rattle.proxy_store_file.specs.Heads.{times_spelling, key_spelling, nominated_text_spelling, nominated_value_spelling, nominated_spelling, line_spelling, lines_spelling, head_numbers_spelling, head_spelling, below, leading_number_below, times_with_response_and_rest, times_read_on_after_request, times_read_on_after_age, times_read_on_after_date, leading_times, times_with_purge_if_at_end, stored_times_with_purge_if_any, purge_spelling, key_with_path_and_rest, key_read_on_after_host, key_read_on_after_port, leading_key, some_value, value_after_length, leading_value, nominated_value_and_rest, nominated_value_read_on_after_name, leading_nominated_value, leading_nominated_values_after, leading_list_of_nominated_values, field_line_and_rest, line_read_on_after_name, leading_field_line, leading_field_lines_after, leading_field_lines, whole, unread_entry_head, head_read_on_after_lines, head_read_on_after_nominated, head_read_on_after_key, head_read_on_after_times, head_read_on_after_length, head_read_on_after_status, head_read_on_after_serial, head_spelled_in}
 use Rattle.proxy_store_file.proofs.TextLaws.{same_pair, after_found, cut_found, number_found, text_found}
 
 -- one part more was found
@@ -29,10 +29,10 @@ below_found bound bytes more n e =
 
 pub times_found : (bytes more : List ℕ) (times : Times) → leading_times bytes ≡ Some (times, more) → bytes ≡ times_spelling times ++ more
 times_found bytes more times e =
-    let p = after_found (leading_number bytes) times_with_date (times, more) e in
-    let q = after_found (leading_number_below (2 ^ 32) p.rest) (times_with_age p.read) (times, more) p.behind in
-    let r = after_found (leading_number q.rest) (times_with_request p.read q.read) (times, more) q.behind in
-    let s = after_found (leading_number r.rest) (times_with_response p.read q.read r.read) (times, more) r.behind in
+    let p = after_found (leading_number bytes) times_read_on_after_date (times, more) e in
+    let q = after_found (leading_number_below (2 ^ 32) p.rest) (times_read_on_after_age p.read) (times, more) p.behind in
+    let r = after_found (leading_number q.rest) (times_read_on_after_request p.read q.read) (times, more) q.behind in
+    let s = after_found (leading_number r.rest) (times_with_response_and_rest p.read q.read r.read) (times, more) r.behind in
     let t : Times = record { date = p.read; age_value = q.read; request_time = r.read; response_time = s.read; expired = None } in
     let same = same_pair t times s.rest more s.behind in
     let d = more_front _ _ _ _ _ (number_found bytes p.rest p.read p.found) (below_found (2 ^ 32) p.rest q.rest q.read q.found) in
@@ -43,28 +43,28 @@ times_found bytes more times e =
 -- such times have no purge yet
 times_without_purge : (bytes more : List ℕ) (times : Times) → leading_times bytes ≡ Some (times, more) → times.expired ≡ None
 times_without_purge bytes more times e =
-    let p = after_found (leading_number bytes) times_with_date (times, more) e in
-    let q = after_found (leading_number_below (2 ^ 32) p.rest) (times_with_age p.read) (times, more) p.behind in
-    let r = after_found (leading_number q.rest) (times_with_request p.read q.read) (times, more) q.behind in
-    let s = after_found (leading_number r.rest) (times_with_response p.read q.read r.read) (times, more) r.behind in
+    let p = after_found (leading_number bytes) times_read_on_after_date (times, more) e in
+    let q = after_found (leading_number_below (2 ^ 32) p.rest) (times_read_on_after_age p.read) (times, more) p.behind in
+    let r = after_found (leading_number q.rest) (times_read_on_after_request p.read q.read) (times, more) q.behind in
+    let s = after_found (leading_number r.rest) (times_with_response_and_rest p.read q.read r.read) (times, more) r.behind in
     let t : Times = record { date = p.read; age_value = q.read; request_time = r.read; response_time = s.read; expired = None } in
     sym (ap (λ (x : Times). x.expired) (same_pair t times s.rest more s.behind).0)
 
 pub key_found : (bytes more : List ℕ) (key : Key) → leading_key bytes ≡ Some (key, more) → bytes ≡ key_spelling key ++ more
 key_found bytes more key e =
-    let p = after_found (leading_number_below (2 ^ 16) bytes) key_with_port (key, more) e in
-    let q = after_found (leading_text p.rest) (key_with_host_and_rest p.read) (key, more) p.behind in
-    let r = after_found (leading_text q.rest) (key_with_path p.read q.read) (key, more) q.behind in
+    let p = after_found (leading_number_below (2 ^ 16) bytes) key_read_on_after_port (key, more) e in
+    let q = after_found (leading_text p.rest) (key_read_on_after_host p.read) (key, more) p.behind in
+    let r = after_found (leading_text q.rest) (key_with_path_and_rest p.read q.read) (key, more) q.behind in
     let k : Key = record { host = q.read; port = p.read; path_query = r.read } in
     let same = same_pair k key r.rest more r.behind in
     let d = more_front _ _ _ _ _ (below_found (2 ^ 16) bytes p.rest p.read p.found) (text_found p.rest q.rest q.read q.found) in
     let f = more_front _ _ _ _ _ d (text_found q.rest r.rest r.read r.found) in
     f ∙ (ap (λ x. key_spelling x ++ r.rest) same.0 ∙ ap (λ x. key_spelling key ++ x) same.1)
 
-pub line_found : (bytes more : List ℕ) (line : Field) → leading_line bytes ≡ Some (line, more) → bytes ≡ line_spelling line ++ more
+pub line_found : (bytes more : List ℕ) (line : Field) → leading_field_line bytes ≡ Some (line, more) → bytes ≡ line_spelling line ++ more
 line_found bytes more line e =
-    let p = after_found (leading_text bytes) line_with_name (line, more) e in
-    let q = after_found (leading_text p.rest) (line_with_value p.read) (line, more) p.behind in
+    let p = after_found (leading_text bytes) line_read_on_after_name (line, more) e in
+    let q = after_found (leading_text p.rest) (field_line_and_rest p.read) (line, more) p.behind in
     let l : Field = record { name = p.read; value = q.read } in
     let same = same_pair l line q.rest more q.behind in
     let d = more_front _ _ _ _ _ (text_found bytes p.rest p.read p.found) (text_found p.rest q.rest q.read q.found) in
@@ -101,8 +101,8 @@ value_found bytes more value e =
 
 pub kept_found : (bytes more : List ℕ) (kept : NominatedValue) → leading_nominated_value bytes ≡ Some (kept, more) → bytes ≡ nominated_value_spelling kept ++ more
 kept_found bytes more kept e =
-    let p = after_found (leading_text bytes) nominated_value_with_name (kept, more) e in
-    let q = after_found (leading_value p.rest) (nominated_value_with_text p.read) (kept, more) p.behind in
+    let p = after_found (leading_text bytes) nominated_value_read_on_after_name (kept, more) e in
+    let q = after_found (leading_value p.rest) (nominated_value_and_rest p.read) (kept, more) p.behind in
     let k : NominatedValue = record { name = p.read; value = q.read } in
     let same = same_pair k kept q.rest more q.behind in
     let d = more_front _ _ _ _ _ (text_found bytes p.rest p.read p.found) (value_found p.rest q.rest q.read q.found) in
@@ -131,11 +131,11 @@ none_more spelled read all bytes more e =
     let same = same_pair read all bytes more e in
     record { added = []; list = sym same.0 ∙ sym (append-nil read); spelling = same.1; number = refl }
 
-lines_behind_found : (n : ℕ) (read all : List Field) (bytes more : List ℕ) → leading_lines_after read n bytes ≡ Some (all, more)
+lines_behind_found : (n : ℕ) (read all : List Field) (bytes more : List ℕ) → leading_field_lines_after read n bytes ≡ Some (all, more)
     → ListFound line_spelling n read all bytes more
 lines_behind_found zero read all bytes more e = none_more line_spelling read all bytes more e
 lines_behind_found (suc n) read all bytes more e =
-    let p = after_found (leading_line bytes) (λ line rest. leading_lines_after (read ++ line ∷ []) n rest) (all, more) e in
+    let p = after_found (leading_field_line bytes) (λ line rest. leading_field_lines_after (read ++ line ∷ []) n rest) (all, more) e in
     one_more line_spelling n read all p.read bytes p.rest more (line_found bytes p.rest p.read p.found)
     (lines_behind_found n (read ++ p.read ∷ []) all p.rest more p.behind)
 
@@ -158,12 +158,12 @@ list_spelled spelled n all bytes rest more front found =
     ∙ (ap (λ k. (number_spelling k ++ flat_map spelled found.added) ++ more) long
     ∙ ap (λ xs. (number_spelling (length all) ++ flat_map spelled xs) ++ more) added)))
 
-pub lines_found : (bytes more : List ℕ) (all : List Field) → leading_lines bytes ≡ Some (all, more) → bytes ≡ lines_spelling all ++ more
+pub lines_found : (bytes more : List ℕ) (all : List Field) → leading_field_lines bytes ≡ Some (all, more) → bytes ≡ lines_spelling all ++ more
 lines_found bytes more all e =
-    let p = after_found (leading_number bytes) (leading_lines_after []) (all, more) e in
+    let p = after_found (leading_number bytes) (leading_field_lines_after []) (all, more) e in
     list_spelled line_spelling p.read all bytes p.rest more (number_found bytes p.rest p.read p.found) (lines_behind_found p.read [] all p.rest more p.behind)
 
-pub nominated_found : (bytes more : List ℕ) (all : List NominatedValue) → leading_nominated_values bytes ≡ Some (all, more) → bytes ≡ nominated_spelling all ++ more
+pub nominated_found : (bytes more : List ℕ) (all : List NominatedValue) → leading_list_of_nominated_values bytes ≡ Some (all, more) → bytes ≡ nominated_spelling all ++ more
 nominated_found bytes more all e =
     let p = after_found (leading_number bytes) (leading_nominated_values_after []) (all, more) e in
     list_spelled nominated_value_spelling p.read all bytes p.rest more (number_found bytes p.rest p.read p.found) (values_behind_found p.read [] all p.rest more p.behind)
@@ -178,13 +178,13 @@ whole_found_by false read times e = absurd (cc)
 
 -- behind the lines stands the purge of the times that are read there, and nothing else
 end_found_by : (t : Bool) (rest : List ℕ) (before times : Times) → (t ≡ true → rest ≡ []) → before.expired ≡ None
-    → cond {A = Option Times} t (Some before) (after (leading_number rest) (times_with_purge before)) ≡ Some times
+    → cond {A = Option Times} t (Some before) (after (leading_number rest) (times_with_purge_if_at_end before)) ≡ Some times
     → (rest ≡ purge_spelling times.expired) × (times_spelling before ≡ times_spelling times)
 end_found_by true rest before times nothing none e =
     let same : before ≡ times = cc in
     (nothing refl ∙ ap purge_spelling (sym none ∙ ap (λ (x : Times). x.expired) same), ap times_spelling same)
 end_found_by false rest before times nothing none e =
-    let p = after_found (leading_number rest) (times_with_purge before) times e in
+    let p = after_found (leading_number rest) (times_with_purge_if_at_end before) times e in
     let marked : Times = record before { expired = Some p.read } in
     let w = whole_found_by (length p.rest == 0) marked times p.behind in (
       number_found rest p.rest p.read p.found
@@ -200,19 +200,19 @@ mapped_found (Some times) make head e = (times, refl, cc)
 pub head_found : (bytes : List ℕ) (head : Head) → head_spelled_in bytes ≡ Some head → bytes ≡ head_spelling head
 unfolding head_spelled_in
 head_found bytes head e =
-    let p1 = after_found (leading_number bytes) head_with_serial head e in
-    let h1 : Head = record empty_head { serial = p1.read } in
-    let p2 = after_found (leading_number_below (2 ^ 16) p1.rest) (head_with_status h1) head p1.behind in
+    let p1 = after_found (leading_number bytes) head_read_on_after_serial head e in
+    let h1 : Head = record unread_entry_head { serial = p1.read } in
+    let p2 = after_found (leading_number_below (2 ^ 16) p1.rest) (head_read_on_after_status h1) head p1.behind in
     let h2 : Head = record h1 { status = p2.read } in
-    let p3 = after_found (leading_number p2.rest) (head_with_length h2) head p2.behind in
+    let p3 = after_found (leading_number p2.rest) (head_read_on_after_length h2) head p2.behind in
     let h3 : Head = record h2 { content_length = p3.read } in
-    let p4 = after_found (leading_times p3.rest) (head_with_times h3) head p3.behind in
+    let p4 = after_found (leading_times p3.rest) (head_read_on_after_times h3) head p3.behind in
     let h4 : Head = record h3 { times = p4.read } in
-    let p5 = after_found (leading_key p4.rest) (head_with_key h4) head p4.behind in
+    let p5 = after_found (leading_key p4.rest) (head_read_on_after_key h4) head p4.behind in
     let h5 : Head = record h4 { key = p5.read } in
-    let p6 = after_found (leading_nominated_values p5.rest) (head_with_nominated h5) head p5.behind in
+    let p6 = after_found (leading_list_of_nominated_values p5.rest) (head_read_on_after_nominated h5) head p5.behind in
     let h6 : Head = record h5 { nominated = p6.read } in
-    let p7 = after_found (leading_lines p6.rest) (head_with_lines h6) head p6.behind in
+    let p7 = after_found (leading_field_lines p6.rest) (head_read_on_after_lines h6) head p6.behind in
     let m = mapped_found (stored_times_with_purge_if_any p4.read p7.rest) (λ times. record h6 { times = times; fields = p7.read }) head p7.behind in
     let w = end_found_by (length p7.rest == 0) p7.rest p4.read m.0 (empty p7.rest) (times_without_purge p3.rest p4.rest p4.read p4.found) m.1 in
     let with_times : List ℕ → List ℕ = λ times.

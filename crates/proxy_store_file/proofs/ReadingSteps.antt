@@ -13,14 +13,14 @@ use Rattle.hx_store.specs.Shelf.{serials, without_serials}
 use Rattle.hx_store.specs.Weights.{StoreBounds, total_weight}
 use Rattle.proxy_store_file.specs.declared.store_faults.EntryPart.{EntryPart}
 use Rattle.proxy_store_file.specs.declared.store_faults.EntryPart.TheVariants as part
-use Rattle.proxy_store_file.specs.declared.store_faults.StoreFault.{StoreFault}
-use Rattle.proxy_store_file.specs.declared.store_faults.StoreFault.TheVariants as fault
+use Rattle.proxy_store_file.specs.declared.store_faults.StoreReadFault.{StoreReadFault}
+use Rattle.proxy_store_file.specs.declared.store_faults.StoreReadFault.TheVariants as fault
 use Rattle.proxy_store_file.specs.declared.pieces.ReadStop.{ReadStop}
 use Rattle.proxy_store_file.specs.declared.pieces.ReadStop.TheVariants as stop
 use Rattle.proxy_store_file.specs.Parts.{first_invalid_part}
 use Rattle.proxy_store_file.specs.Texts.{cut, number_of, is_number, number_spelling}
-use Rattle.proxy_store_file.specs.Stores.{StoreContents, StoreReading, LeadingEntryReading, weight_exceeds_bound, leading_entry, entry_fault, reading_unless_entry_fault, reading_after_entry, fault_of_part, fault_among_entries, reading_of_entries, reading_of_opening_numbers, reading_of_first_line, or_short_file_fault, first_line, first_line_words, digest_spelling, reading_of_digest, reading_of_end, read_store}
-use Rattle.proxy_store_file.specs.Streams.{ReaderGaveBytes, EightBytesGaveNumber, ReaderStoppedShort, EntryIsRead, IsLessThanAnEntry, reading_of_entry, ReaderGaveReading, ReaderIsRefusedFor, ReadingIsUnfinished, FileFrontIsRead, NextEntryIsRead, EntryIsRefused, FileEndIsRead, FileEndIsRefused, bounds_of, store_contents_of, fault_of_stop, line_fault}
+use Rattle.proxy_store_file.specs.Stores.{StoreContents, StoreReading, LeadingEntryReading, store_weight_exceeds_bound, leading_entry, entry_fault, reading_unless_entry_fault, reading_after_entry, fault_of_part, entry_fault_against_held, reading_of_entries, reading_by_opening_numbers, reading_by_first_line, reading_or_short_file_fault, first_line, first_line_words, digest_spelling, reading_of_digest, reading_of_end, read_store}
+use Rattle.proxy_store_file.specs.Streams.{ReaderGaveBytes, EightBytesGaveNumber, ReaderStoppedShort, EntryIsRead, IsLessThanAnEntry, reading_of_entry, ReaderGaveReading, ReaderIsRefusedFor, ReadingIsWholeOrTooShort, FileFrontIsRead, NextEntryIsRead, EntryIsRefused, FileEndIsRead, FileEndIsRefused, bounds_of, store_contents_of, fault_of_stop, first_line_fault}
 use Rattle.proxy_store_file.proofs.TextLaws.{cut_again, same_bytes, number_is_spelled, number_of_spelled}
 use Rattle.proxy_store_file.proofs.EntryLaws.{cut_short}
 use Rattle.proxy_store_file.proofs.HeadLaws.{empty}
@@ -30,62 +30,62 @@ use Rattle.proxy_store_file.proofs.Fronts.{Bytes, read_behind, refused_behind, f
 
 pub store_short : (bounds : StoreBounds) (bytes : List ℕ) → length bytes < 17 → read_store bounds bytes ≡ Err (fault.Short 0)
 unfolding read_store
-store_short bounds bytes few = ap (λ (o : Option (List ℕ × List ℕ)). or_short_file_fault 0 o (reading_of_first_line bounds bytes)) (cut_short 17 bytes few)
+store_short bounds bytes few = ap (λ (o : Option (List ℕ × List ℕ)). reading_or_short_file_fault 0 o (reading_by_first_line bounds bytes)) (cut_short 17 bytes few)
 
-store_line : (bounds : StoreBounds) (line more : List ℕ) → length line ≡ 17 → read_store bounds (line ++ more) ≡ reading_of_first_line bounds (line ++ more) line more
+store_line : (bounds : StoreBounds) (line more : List ℕ) → length line ≡ 17 → read_store bounds (line ++ more) ≡ reading_by_first_line bounds (line ++ more) line more
 unfolding read_store
-store_line bounds line more long = ap (λ (o : Option (List ℕ × List ℕ)). or_short_file_fault 0 o (reading_of_first_line bounds (line ++ more))) (cut_again line more 17 long)
+store_line bounds line more long = ap (λ (o : Option (List ℕ × List ℕ)). reading_or_short_file_fault 0 o (reading_by_first_line bounds (line ++ more))) (cut_again line more 17 long)
 
 pub line_is_read : (bounds : StoreBounds) (a b : Bytes) (h0 h1 : DefaultHasher) (line : List ℕ) → ReaderGaveBytes a b h0 h1 line → length line ≡ 17
-    → FileFrontIsRead (read_store bounds) (λ text rest. reading_of_first_line bounds text line rest) a b h0 h1
+    → FileFrontIsRead (read_store bounds) (λ text rest. reading_by_first_line bounds text line rest) a b h0 h1
 line_is_read bounds a b h0 h1 line given long = record { bytes = line; gave = given; reads = λ more. store_line bounds line more long }
 
 abbrev pub next_read : StoreBounds → List ℕ → List ℕ → List ℕ → StoreReading
-next_read bounds text next more = or_short_file_fault 0 (cut 8 more) (reading_of_opening_numbers bounds text next)
+next_read bounds text next more = reading_or_short_file_fault 0 (cut 8 more) (reading_by_opening_numbers bounds text next)
 
-line_good_by : (t u : Bool) → cond {A = Option StoreFault} t None (cond u (Some fault.Version) (Some fault.NotAStore)) ≡ None → t ≡ true
+line_good_by : (t u : Bool) → cond {A = Option StoreReadFault} t None (cond u (Some fault.Version) (Some fault.NotAStore)) ≡ None → t ≡ true
 line_good_by true u e = refl
 line_good_by false true e = absurd (cc)
 line_good_by false false e = absurd (cc)
 
-pub line_is_good : (bounds : StoreBounds) (a b : Bytes) (h0 h1 : DefaultHasher) (line : List ℕ) → ReaderGaveBytes a b h0 h1 line → length line ≡ 17 → line_fault line ≡ None
-    → FileFrontIsRead (read_store bounds) (λ text rest. or_short_file_fault 0 (cut 8 rest) (next_read bounds text)) a b h0 h1
+pub line_is_good : (bounds : StoreBounds) (a b : Bytes) (h0 h1 : DefaultHasher) (line : List ℕ) → ReaderGaveBytes a b h0 h1 line → length line ≡ 17 → first_line_fault line ≡ None
+    → FileFrontIsRead (read_store bounds) (λ text rest. reading_or_short_file_fault 0 (cut 8 rest) (next_read bounds text)) a b h0 h1
 line_is_good bounds a b h0 h1 line given long none =
     let good : bytes_eq line first_line ≡ true = line_good_by (bytes_eq line first_line) (bytes_eq (take 15 line) first_line_words) none in
-    front_same (read_store bounds) (λ text rest. reading_of_first_line bounds text line rest) (λ text rest. or_short_file_fault 0 (cut 8 rest) (next_read bounds text)) a b h0 h1
+    front_same (read_store bounds) (λ text rest. reading_by_first_line bounds text line rest) (λ text rest. reading_or_short_file_fault 0 (cut 8 rest) (next_read bounds text)) a b h0 h1
     (line_is_read bounds a b h0 h1 line given long)
-    (λ text rest. ap (λ t. cond {A = StoreReading} t (or_short_file_fault 0 (cut 8 rest) (next_read bounds text)) (cond (bytes_eq (take 15 line) first_line_words) (Err fault.Version) (Err fault.NotAStore))) good)
+    (λ text rest. ap (λ t. cond {A = StoreReading} t (reading_or_short_file_fault 0 (cut 8 rest) (next_read bounds text)) (cond (bytes_eq (take 15 line) first_line_words) (Err fault.Version) (Err fault.NotAStore))) good)
 
 -- what a bad line is read as, and that it is no fault of the reader
-line_bad_by : (t u : Bool) (good : StoreReading) (f : StoreFault) → cond {A = Option StoreFault} t None (cond u (Some fault.Version) (Some fault.NotAStore)) ≡ Some f
+line_bad_by : (t u : Bool) (good : StoreReading) (f : StoreReadFault) → cond {A = Option StoreReadFault} t None (cond u (Some fault.Version) (Some fault.NotAStore)) ≡ Some f
     → cond {A = StoreReading} t good (cond u (Err fault.Version) (Err fault.NotAStore)) ≡ Err f
 line_bad_by true u good f e = absurd (cc)
 line_bad_by false true good f e = cc
 line_bad_by false false good f e = cc
 
-line_not_by : (t u : Bool) (f x : StoreFault) → cond {A = Option StoreFault} t None (cond u (Some fault.Version) (Some fault.NotAStore)) ≡ Some f
+line_not_by : (t u : Bool) (f x : StoreReadFault) → cond {A = Option StoreReadFault} t None (cond u (Some fault.Version) (Some fault.NotAStore)) ≡ Some f
     → fault.Version ≢ x → fault.NotAStore ≢ x → f ≢ x
 line_not_by true u f x e p q = λ is. absurd (cc)
 line_not_by false true f x e p q = λ is. p (cc)
 line_not_by false false f x e p q = λ is. q (cc)
 
-pub line_is_refused : (bounds : StoreBounds) (a b : Bytes) (h0 h1 : DefaultHasher) (line : List ℕ) (f : StoreFault) → ReaderGaveBytes a b h0 h1 line → length line ≡ 17 → line_fault line ≡ Some f
+pub line_is_refused : (bounds : StoreBounds) (a b : Bytes) (h0 h1 : DefaultHasher) (line : List ℕ) (f : StoreReadFault) → ReaderGaveBytes a b h0 h1 line → length line ≡ 17 → first_line_fault line ≡ Some f
     → ReaderIsRefusedFor (read_store bounds) a b f
 line_is_refused bounds a b h0 h1 line f given long is =
     let t = bytes_eq line first_line in
     let u = bytes_eq (take 15 line) first_line_words in
     refused_by_reading (read_store bounds) a b f (line_not_by t u f fault.Read is (λ e. absurd (cc)) (λ e. absurd (cc))) (line_not_by t u f fault.OutOfMemory is (λ e. absurd (cc)) (λ e. absurd (cc)))
-    (front_decides (read_store bounds) (λ text rest. reading_of_first_line bounds text line rest) a b h0 h1 (Err f) (line_is_read bounds a b h0 h1 line given long)
-    (λ text rest. line_bad_by t u (or_short_file_fault 0 (cut 8 rest) (next_read bounds text)) f is))
+    (front_decides (read_store bounds) (λ text rest. reading_by_first_line bounds text line rest) a b h0 h1 (Err f) (line_is_read bounds a b h0 h1 line given long)
+    (λ text rest. line_bad_by t u (reading_or_short_file_fault 0 (cut 8 rest) (next_read bounds text)) f is))
 
 -- the number behind the first line, and the one behind that
-pub next_is_read : (bounds : StoreBounds) (a b c : Bytes) (h0 h1 h2 : DefaultHasher) (line : List ℕ) (next : ℕ) → ReaderGaveBytes a b h0 h1 line → length line ≡ 17 → line_fault line ≡ None
-    → (g : EightBytesGaveNumber b c h1 h2 next) → FileFrontIsRead (read_store bounds) (λ text rest. or_short_file_fault 0 (cut 8 rest) (reading_of_opening_numbers bounds text g.bytes)) a c h0 h2
+pub next_is_read : (bounds : StoreBounds) (a b c : Bytes) (h0 h1 h2 : DefaultHasher) (line : List ℕ) (next : ℕ) → ReaderGaveBytes a b h0 h1 line → length line ≡ 17 → first_line_fault line ≡ None
+    → (g : EightBytesGaveNumber b c h1 h2 next) → FileFrontIsRead (read_store bounds) (λ text rest. reading_or_short_file_fault 0 (cut 8 rest) (reading_by_opening_numbers bounds text g.bytes)) a c h0 h2
 next_is_read bounds a b c h0 h1 h2 line next given long none g =
     front_cut (read_store bounds) (next_read bounds) 0 a b c h0 h1 h2 g.bytes (line_is_good bounds a b h0 h1 line given long none) g.gave g.are_eight
 
 counted_good : (bounds : StoreBounds) (text A B rest : List ℕ) (next number : ℕ) → is_number A ≡ true → is_number B ≡ true → next ≡ number_of A → number ≡ number_of B
-    → number ≤ bounds.entries → reading_of_opening_numbers bounds text A B rest ≡ reading_of_entries text bounds.bytes next number [] rest
+    → number ≤ bounds.entries → reading_by_opening_numbers bounds text A B rest ≡ reading_of_entries text bounds.bytes next number [] rest
 counted_good bounds text A B rest next number p q m n few =
     let within : nat_le (number_of B) bounds.entries ≡ true = le-leb (number_of B) bounds.entries (subst (λ k. k ≤ bounds.entries) n few) in
     ap (λ t. cond {A = StoreReading} (t && is_number B) (cond (nat_le (number_of B) bounds.entries) (reading_of_entries text bounds.bytes (number_of A) (number_of B) [] rest) (Err fault.Entries)) (Err fault.NotAStore)) p
@@ -94,7 +94,7 @@ counted_good bounds text A B rest next number p q m n few =
     ∙ (ap (λ k. reading_of_entries text bounds.bytes k (number_of B) [] rest) (sym m) ∙ ap (λ k. reading_of_entries text bounds.bytes next k [] rest) (sym n))))
 
 counted_bad : (bounds : StoreBounds) (text A B rest : List ℕ) (number : ℕ) → is_number A ≡ true → is_number B ≡ true → number ≡ number_of B
-    → bounds.entries < number → reading_of_opening_numbers bounds text A B rest ≡ Err fault.Entries
+    → bounds.entries < number → reading_by_opening_numbers bounds text A B rest ≡ Err fault.Entries
 counted_bad bounds text A B rest number p q n many =
     let beyond : nat_le (number_of B) bounds.entries ≡ false = lt-leb (number_of B) bounds.entries (subst (λ k. bounds.entries < k) n many) in
     ap (λ t. cond {A = StoreReading} (t && is_number B) (cond (nat_le (number_of B) bounds.entries) (reading_of_entries text bounds.bytes (number_of A) (number_of B) [] rest) (Err fault.Entries)) (Err fault.NotAStore)) p
@@ -104,38 +104,38 @@ counted_bad bounds text A B rest number p q n many =
 abbrev pub after_opening : StoreBounds → ℕ → ℕ → List ℕ → List ℕ → StoreReading
 after_opening bounds next number text rest = reading_of_entries text bounds.bytes next number [] rest
 
-numbers_are_read : (bounds : StoreBounds) (a b c d : Bytes) (h0 h1 h2 h3 : DefaultHasher) (line : List ℕ) (next number : ℕ) → ReaderGaveBytes a b h0 h1 line → length line ≡ 17 → line_fault line ≡ None
-    → (g : EightBytesGaveNumber b c h1 h2 next) → (k : EightBytesGaveNumber c d h2 h3 number) → FileFrontIsRead (read_store bounds) (λ text rest. reading_of_opening_numbers bounds text g.bytes k.bytes rest) a d h0 h3
+numbers_are_read : (bounds : StoreBounds) (a b c d : Bytes) (h0 h1 h2 h3 : DefaultHasher) (line : List ℕ) (next number : ℕ) → ReaderGaveBytes a b h0 h1 line → length line ≡ 17 → first_line_fault line ≡ None
+    → (g : EightBytesGaveNumber b c h1 h2 next) → (k : EightBytesGaveNumber c d h2 h3 number) → FileFrontIsRead (read_store bounds) (λ text rest. reading_by_opening_numbers bounds text g.bytes k.bytes rest) a d h0 h3
 numbers_are_read bounds a b c d h0 h1 h2 h3 line next number given long none g k =
-    front_cut (read_store bounds) (λ text eight rest. reading_of_opening_numbers bounds text g.bytes eight rest) 0 a c d h0 h2 h3 k.bytes
+    front_cut (read_store bounds) (λ text eight rest. reading_by_opening_numbers bounds text g.bytes eight rest) 0 a c d h0 h2 h3 k.bytes
     (next_is_read bounds a b c h0 h1 h2 line next given long none g) k.gave k.are_eight
 
-pub opening_is_read : (bounds : StoreBounds) (a b c d : Bytes) (h0 h1 h2 h3 : DefaultHasher) (line : List ℕ) (next number : ℕ) → ReaderGaveBytes a b h0 h1 line → length line ≡ 17 → line_fault line ≡ None
+pub opening_is_read : (bounds : StoreBounds) (a b c d : Bytes) (h0 h1 h2 h3 : DefaultHasher) (line : List ℕ) (next number : ℕ) → ReaderGaveBytes a b h0 h1 line → length line ≡ 17 → first_line_fault line ≡ None
     → EightBytesGaveNumber b c h1 h2 next → EightBytesGaveNumber c d h2 h3 number → number ≤ bounds.entries → FileFrontIsRead (read_store bounds) (after_opening bounds next number) a d h0 h3
 opening_is_read bounds a b c d h0 h1 h2 h3 line next number given long none g k few =
-    front_same (read_store bounds) (λ text rest. reading_of_opening_numbers bounds text g.bytes k.bytes rest) (after_opening bounds next number) a d h0 h3
+    front_same (read_store bounds) (λ text rest. reading_by_opening_numbers bounds text g.bytes k.bytes rest) (after_opening bounds next number) a d h0 h3
     (numbers_are_read bounds a b c d h0 h1 h2 h3 line next number given long none g k)
     (λ text rest. counted_good bounds text g.bytes k.bytes rest next number g.is_number k.is_number g.number k.number few)
 
-pub too_many_entries : (bounds : StoreBounds) (a b c d : Bytes) (h0 h1 h2 h3 : DefaultHasher) (line : List ℕ) (next number : ℕ) → ReaderGaveBytes a b h0 h1 line → length line ≡ 17 → line_fault line ≡ None
+pub too_many_entries : (bounds : StoreBounds) (a b c d : Bytes) (h0 h1 h2 h3 : DefaultHasher) (line : List ℕ) (next number : ℕ) → ReaderGaveBytes a b h0 h1 line → length line ≡ 17 → first_line_fault line ≡ None
     → EightBytesGaveNumber b c h1 h2 next → EightBytesGaveNumber c d h2 h3 number → bounds.entries < number → ReaderIsRefusedFor (read_store bounds) a d fault.Entries
 too_many_entries bounds a b c d h0 h1 h2 h3 line next number given long none g k many =
-    front_decides (read_store bounds) (λ text rest. reading_of_opening_numbers bounds text g.bytes k.bytes rest) a d h0 h3 (Err fault.Entries)
+    front_decides (read_store bounds) (λ text rest. reading_by_opening_numbers bounds text g.bytes k.bytes rest) a d h0 h3 (Err fault.Entries)
     (numbers_are_read bounds a b c d h0 h1 h2 h3 line next number given long none g k)
     (λ text rest. counted_bad bounds text g.bytes k.bytes rest number g.is_number k.is_number k.number many)
 
 pub stops_in_line : (bounds : StoreBounds) (a b : Bytes) (why : ReadStop) → ReaderStoppedShort (λ bytes. length bytes < 17) a b why → ReaderIsRefusedFor (read_store bounds) a b (fault_of_stop 0 why)
 stops_in_line bounds a b why s = stopped (read_store bounds) (λ bytes. length bytes < 17) a b 0 why s (store_short bounds)
 
-pub stops_in_next : (bounds : StoreBounds) (a b c : Bytes) (h0 h1 : DefaultHasher) (line : List ℕ) (why : ReadStop) → ReaderGaveBytes a b h0 h1 line → length line ≡ 17 → line_fault line ≡ None
+pub stops_in_next : (bounds : StoreBounds) (a b c : Bytes) (h0 h1 : DefaultHasher) (line : List ℕ) (why : ReadStop) → ReaderGaveBytes a b h0 h1 line → length line ≡ 17 → first_line_fault line ≡ None
     → ReaderStoppedShort (λ bytes. length bytes < 8) b c why → ReaderIsRefusedFor (read_store bounds) a c (fault_of_stop 0 why)
 stops_in_next bounds a b c h0 h1 line why given long none s =
     front_stops (read_store bounds) (next_read bounds) 0 a b c h0 h1 why (line_is_good bounds a b h0 h1 line given long none) s
 
-pub stops_in_count : (bounds : StoreBounds) (a b c d : Bytes) (h0 h1 h2 : DefaultHasher) (line : List ℕ) (next : ℕ) (why : ReadStop) → ReaderGaveBytes a b h0 h1 line → length line ≡ 17 → line_fault line ≡ None
+pub stops_in_count : (bounds : StoreBounds) (a b c d : Bytes) (h0 h1 h2 : DefaultHasher) (line : List ℕ) (next : ℕ) (why : ReadStop) → ReaderGaveBytes a b h0 h1 line → length line ≡ 17 → first_line_fault line ≡ None
     → EightBytesGaveNumber b c h1 h2 next → ReaderStoppedShort (λ bytes. length bytes < 8) c d why → ReaderIsRefusedFor (read_store bounds) a d (fault_of_stop 0 why)
 stops_in_count bounds a b c d h0 h1 h2 line next why given long none g s =
-    front_stops (read_store bounds) (λ text eight rest. reading_of_opening_numbers bounds text g.bytes eight rest) 0 a c d h0 h2 why (next_is_read bounds a b c h0 h1 h2 line next given long none g) s
+    front_stops (read_store bounds) (λ text eight rest. reading_by_opening_numbers bounds text g.bytes eight rest) 0 a c d h0 h2 why (next_is_read bounds a b c h0 h1 h2 line next given long none g) s
 
 -- ---- an entry
 
@@ -152,24 +152,24 @@ entry_is_taken most next held e a b h0 h1 r none = λ front left. record {
 }
 
 -- a fault of an entry isn't one of the reader, nor of memory
-standing_by : (t u : Bool) (n : ℕ) (f x : StoreFault) → cond {A = Option StoreFault} t (Some (fault.Serial n)) (cond u (Some (fault.Weight n)) None) ≡ Some f
+standing_by : (t u : Bool) (n : ℕ) (f x : StoreReadFault) → cond {A = Option StoreReadFault} t (Some (fault.Serial n)) (cond u (Some (fault.Weight n)) None) ≡ Some f
     → fault.Serial n ≢ x → fault.Weight n ≢ x → f ≢ x
 standing_by true u n f x e p q = λ is. p (cc)
 standing_by false true n f x e p q = λ is. q (cc)
 standing_by false false n f x e p q = λ is. absurd (cc)
 
-part_by : (o : Option EntryPart) (t u : Bool) (n : ℕ) (f x : StoreFault)
-    → fault_of_part n o (cond {A = Option StoreFault} t (Some (fault.Serial n)) (cond u (Some (fault.Weight n)) None)) ≡ Some f
+part_by : (o : Option EntryPart) (t u : Bool) (n : ℕ) (f x : StoreReadFault)
+    → fault_of_part n o (cond {A = Option StoreReadFault} t (Some (fault.Serial n)) (cond u (Some (fault.Weight n)) None)) ≡ Some f
     → ((p : EntryPart) → fault.Entry n p ≢ x) → fault.Serial n ≢ x → fault.Weight n ≢ x → f ≢ x
 part_by None t u n f x e r p q = standing_by t u n f x e p q
 part_by (Some y) t u n f x e r p q = λ is. r y (cc)
 
-pub entry_is_refused : (most : Option ℕ) (next : ℕ) (held : List Stored) (e : Stored) (f : StoreFault) (a b : Bytes) (h0 h1 : DefaultHasher)
+pub entry_is_refused : (most : Option ℕ) (next : ℕ) (held : List Stored) (e : Stored) (f : StoreReadFault) (a b : Bytes) (h0 h1 : DefaultHasher)
     → EntryIsRead a b h0 h1 (reading_of_entry (Some e)) → entry_fault (length held + 1) most next held e ≡ Some f → EntryIsRefused most next held a b f
 entry_is_refused most next held e f a b h0 h1 r is = λ front left.
     let n = length held + 1 in
     let t = serial_is_in e.serial (serials held) || nat_le next e.serial in
-    let u = weight_exceeds_bound most (total_weight (e ∷ held)) in
+    let u = store_weight_exceeds_bound most (total_weight (e ∷ held)) in
     refused_by_reading (λ rest. reading_of_entries (front ++ rest) most next (suc left) held rest) a b f
     (part_by (first_invalid_part e) t u n f fault.Read is (λ p d. absurd (cc)) (λ d. absurd (cc)) (λ d. absurd (cc)))
     (part_by (first_invalid_part e) t u n f fault.OutOfMemory is (λ p d. absurd (cc)) (λ d. absurd (cc)) (λ d. absurd (cc)))
@@ -223,7 +223,7 @@ body_in_front front rest =
 digest_behind : (front digest more : List ℕ) (store : StoreContents) → length digest ≡ 8
     → reading_of_end (front ++ (digest ++ more)) store (digest ++ more) ≡ reading_of_digest front store digest more
 digest_behind front digest more store long =
-    ap (λ (o : Option (List ℕ × List ℕ)). or_short_file_fault (length store.entries) o (reading_of_digest (take (length (front ++ (digest ++ more)) - length (digest ++ more)) (front ++ (digest ++ more))) store)) (cut_again digest more 8 long)
+    ap (λ (o : Option (List ℕ × List ℕ)). reading_or_short_file_fault (length store.entries) o (reading_of_digest (take (length (front ++ (digest ++ more)) - length (digest ++ more)) (front ++ (digest ++ more))) store)) (cut_again digest more 8 long)
     ∙ ap (λ body. reading_of_digest body store digest more) (body_in_front front (digest ++ more))
 
 digest_is_so : (front digest : List ℕ) (w d : ℕ) → is_number digest ≡ true → w ≡ number_of digest → d ≡ finish (write initial front) → w ≡ d
@@ -246,7 +246,7 @@ pub end_stops : (held : List Stored) (a b : Bytes) (h0 : DefaultHasher) (n : ℕ
     → FileEndIsRefused held a b h0 (fault_of_stop n why)
 end_stops held a b h0 n why long s = λ front next is.
     stopped (λ rest. reading_of_end (front ++ rest) (store_contents_of held next) rest) (λ bytes. length bytes < 8) a b n why s
-    (λ bytes few. ap (λ (o : Option (List ℕ × List ℕ)). or_short_file_fault (length held) o (reading_of_digest (take (length (front ++ bytes) - length bytes) (front ++ bytes)) (store_contents_of held next))) (cut_short 8 bytes few)
+    (λ bytes few. ap (λ (o : Option (List ℕ × List ℕ)). reading_or_short_file_fault (length held) o (reading_of_digest (take (length (front ++ bytes) - length bytes) (front ++ bytes)) (store_contents_of held next))) (cut_short 8 bytes few)
     ∙ ap (λ k. Err (fault.Short k)) long)
 
 abbrev pub reads_end : List Stored → List ℕ → ℕ → List ℕ → StoreReading
@@ -319,7 +319,7 @@ pub end_isnt_seen : (held : List Stored) (a b c : Bytes) (h0 h1 : DefaultHasher)
 end_isnt_seen held a b c h0 h1 w d g of same s = λ front next is.
     let few : length s.bytes < 1 = s.few (λ e. absurd (cc)) in
     refused_behind (reads_end held front next) (nothing_more (store_contents_of held next)) a b c h0 h1 fault.Read (digest_is_read held a b h0 h1 w d g of same front next is)
-    (record { bytes = s.bytes; consumes = s.consumes; reads = subst ReadingIsUnfinished (sym (end_by held next s.bytes few)) tt })
+    (record { bytes = s.bytes; consumes = s.consumes; reads = subst ReadingIsWholeOrTooShort (sym (end_by held next s.bytes few)) tt })
 
 pub memory_at_the_end : (held : List Stored) (a b c : Bytes) (h0 h1 : DefaultHasher) (w d : ℕ) → EightBytesGaveNumber a b h0 h1 w → d ≡ finish h0 → w ≡ d
     → ReaderStoppedShort (λ bytes. length bytes < 1) b c stop.OutOfMemory → FileEndIsRefused held a c h0 fault.OutOfMemory
@@ -342,7 +342,7 @@ one_more_is_read bounds next number i held more a b c h0 h1 h2 within f taken =
     front_behind (read_store bounds) (λ text rest. reading_of_entries text bounds.bytes next (suc (number - (i + 1))) held rest) (λ text rest. reading_of_entries text bounds.bytes next (number - (i + 1)) more rest)
     a b c h0 h1 h2 g (taken g.bytes (number - (i + 1)))
 
-pub one_more_is_refused : (bounds : StoreBounds) (next number i : ℕ) (held : List Stored) (a b c : Bytes) (h0 h1 : DefaultHasher) (f : StoreFault) → i < number
+pub one_more_is_refused : (bounds : StoreBounds) (next number i : ℕ) (held : List Stored) (a b c : Bytes) (h0 h1 : DefaultHasher) (f : StoreReadFault) → i < number
     → EntriesAreRead bounds next (number - i) held a b h0 h1 → EntryIsRefused bounds.bytes next held b c f → ReaderIsRefusedFor (read_store bounds) a c f
 one_more_is_refused bounds next number i held a b c h0 h1 f within before refused =
     let e : number - i ≡ suc (number - (i + 1)) = omega arith in
@@ -364,7 +364,7 @@ store_is_read bounds next left held a b c h0 h1 none new f end =
     read_behind (read_store bounds) (λ text rest. reading_of_end text (store_contents_of held next) rest) a b c h0 h1 (Ok (store_contents_of held next)) g
     (end g.bytes next (g.gave.hashed ∙ ap (λ h. write h g.bytes) new))
 
-pub store_is_refused : (bounds : StoreBounds) (next left : ℕ) (held : List Stored) (a b c : Bytes) (h0 h1 : DefaultHasher) (f : StoreFault) → left ≡ 0 → h0 ≡ initial
+pub store_is_refused : (bounds : StoreBounds) (next left : ℕ) (held : List Stored) (a b c : Bytes) (h0 h1 : DefaultHasher) (f : StoreReadFault) → left ≡ 0 → h0 ≡ initial
     → EntriesAreRead bounds next left held a b h0 h1 → FileEndIsRefused held b c h1 f → ReaderIsRefusedFor (read_store bounds) a c f
 store_is_refused bounds next left held a b c h0 h1 f none new before end =
     let g = all_are_read bounds next left held a b h0 h1 none before in

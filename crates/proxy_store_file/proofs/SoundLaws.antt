@@ -9,16 +9,16 @@ use Rattle.hx_store.specs.Serials.{serial_is_in, SerialsAreDistinct}
 use Rattle.hx_store.specs.Shelf.{serials}
 use Rattle.hx_store.specs.Weights.{StoreBounds, IsWithinBounds, weight_of_entry, total_weight}
 use Rattle.proxy_store_file.specs.declared.store_faults.EntryPart.{EntryPart}
-use Rattle.proxy_store_file.specs.declared.store_faults.StoreFault.{StoreFault}
-use Rattle.proxy_store_file.specs.declared.store_faults.StoreFault.TheVariants as fault
+use Rattle.proxy_store_file.specs.declared.store_faults.StoreReadFault.{StoreReadFault}
+use Rattle.proxy_store_file.specs.declared.store_faults.StoreReadFault.TheVariants as fault
 use Rattle.proxy_store_file.specs.Texts.{number_of, is_number, cut}
 use Rattle.proxy_store_file.specs.Parts.{first_invalid_part}
 use Rattle.proxy_store_file.specs.Fits.{EntryIsValidInStore, EntriesAreValidInStore, StoreContentsAreValid}
-use Rattle.proxy_store_file.specs.Stores.{StoreContents, first_line_words, first_line, digest_spelling, LeadingEntryReading, Cut, Shapeless, Found, leading_entry, entry_fault, fault_of_part, fault_among_entries, weight_exceeds_bound, StoreReading, or_short_file_fault, reading_of_digest, reading_of_end, reading_unless_entry_fault, reading_after_entry, reading_of_entries, reading_of_opening_numbers, reading_of_first_line, read_store}
+use Rattle.proxy_store_file.specs.Stores.{StoreContents, first_line_words, first_line, digest_spelling, LeadingEntryReading, Cut, Shapeless, Found, leading_entry, entry_fault, fault_of_part, entry_fault_against_held, store_weight_exceeds_bound, StoreReading, reading_or_short_file_fault, reading_of_digest, reading_of_end, reading_unless_entry_fault, reading_after_entry, reading_of_entries, reading_by_opening_numbers, reading_by_first_line, read_store}
 
 -- no fault was found
-fault_by : (o : Option EntryPart) (a b c : Bool) (n : ℕ) (f g : StoreFault)
-    → fault_of_part n o (cond {A = Option StoreFault} (a || b) (Some f) (cond {A = Option StoreFault} c (Some g) None)) ≡ None
+fault_by : (o : Option EntryPart) (a b c : Bool) (n : ℕ) (f g : StoreReadFault)
+    → fault_of_part n o (cond {A = Option StoreReadFault} (a || b) (Some f) (cond {A = Option StoreReadFault} c (Some g) None)) ≡ None
     → (o ≡ None) × ((a ≡ false) × ((b ≡ false) × (c ≡ false)))
 fault_by None false false false n f g e = (refl, (refl, (refl, refl)))
 fault_by None false false true n f g e = absurd (cc)
@@ -32,10 +32,10 @@ fault_by (Some p) a b c n f g e = absurd (cc)
 
 stands_by : (n : ℕ) (most : Option ℕ) (next : ℕ) (held : List Stored) (e : Stored) → entry_fault n most next held e ≡ None → EntryIsValidInStore most next held e
 stands_by n most next held e none =
-    let p = fault_by (first_invalid_part e) (serial_is_in e.serial (serials held)) (nat_le next e.serial) (weight_exceeds_bound most (total_weight (e ∷ held))) n (fault.Serial n) (fault.Weight n) none in
+    let p = fault_by (first_invalid_part e) (serial_is_in e.serial (serials held)) (nat_le next e.serial) (store_weight_exceeds_bound most (total_weight (e ∷ held))) n (fault.Serial n) (fault.Weight n) none in
     record { parts = p.0; is_new = p.1.0; below_next = p.1.1.0; weighs = p.1.1.1 }
 
-taken_by : (o : Option StoreFault) (reading : StoreReading) (store : StoreContents) → reading_unless_entry_fault o reading ≡ Ok store → (o ≡ None) × (reading ≡ Ok store)
+taken_by : (o : Option StoreReadFault) (reading : StoreReading) (store : StoreContents) → reading_unless_entry_fault o reading ≡ Ok store → (o ≡ None) × (reading ≡ Ok store)
 taken_by None reading store e = (refl, e)
 taken_by (Some f) reading store e = absurd (cc)
 
@@ -50,7 +50,7 @@ ended_by true true own store e = cc
 ended_by true false own store e = absurd (cc)
 ended_by false u own store e = absurd (cc)
 
-end_sound : (o : Option (List ℕ × List ℕ)) (body : List ℕ) (n : ℕ) (own store : StoreContents) → or_short_file_fault n o (reading_of_digest body own) ≡ Ok store → own ≡ store
+end_sound : (o : Option (List ℕ × List ℕ)) (body : List ℕ) (n : ℕ) (own store : StoreContents) → reading_or_short_file_fault n o (reading_of_digest body own) ≡ Ok store → own ≡ store
 end_sound None body n own store e = absurd (cc)
 end_sound (Some p) body n own store e = ended_by (bytes_eq p.0 (digest_spelling body)) _ own store e
 
@@ -90,7 +90,7 @@ line_by false true reading store e = absurd (cc)
 line_by false false reading store e = absurd (cc)
 
 short_by : (n : ℕ) (o : Option (List ℕ × List ℕ)) (k : List ℕ → List ℕ → StoreReading) (store : StoreContents) (P : Type 0)
-    → ((a b : List ℕ) → k a b ≡ Ok store → P) → or_short_file_fault n o k ≡ Ok store → P
+    → ((a b : List ℕ) → k a b ≡ Ok store → P) → reading_or_short_file_fault n o k ≡ Ok store → P
 short_by n None k store P then e = absurd (cc)
 short_by n (Some p) k store P then e = then p.0 p.1 e
 
@@ -104,7 +104,7 @@ weighs_by (Some most) next [] stand = omega arith
 weighs_by (Some most) next (e ∷ es) stand =
     let light : total_weight (e ∷ es) < suc most = leb-false (suc most) (total_weight (e ∷ es)) stand.0.weighs in omega (arith, light)
 
-counted_sound : (bounds : StoreBounds) (text a b rest : List ℕ) (store : StoreContents) → reading_of_opening_numbers bounds text a b rest ≡ Ok store → StoreContentsAreValid bounds store
+counted_sound : (bounds : StoreBounds) (text a b rest : List ℕ) (store : StoreContents) → reading_by_opening_numbers bounds text a b rest ≡ Ok store → StoreContentsAreValid bounds store
 counted_sound bounds text a b rest store e =
     let n = counted_by (is_number a && is_number b) (nat_le (number_of b) bounds.entries) (reading_of_entries text bounds.bytes (number_of a) (number_of b) [] rest) store e in
     let s = entries_sound (number_of b) (number_of b) text bounds.bytes (number_of a) [] rest store (omega arith) tt n.1 in
@@ -120,8 +120,8 @@ counted_sound bounds text a b rest store e =
 pub read_stores_stand : (bounds : StoreBounds) (text : List ℕ) (store : StoreContents) → read_store bounds text ≡ Ok store → StoreContentsAreValid bounds store
 unfolding read_store
 read_stores_stand bounds text store e =
-    short_by 0 (cut 17 text) (reading_of_first_line bounds text) store (StoreContentsAreValid bounds store)
-    (λ line rest is. short_by 0 (cut 8 rest) (λ next more. or_short_file_fault 0 (cut 8 more) (reading_of_opening_numbers bounds text next)) store (StoreContentsAreValid bounds store)
-    (λ next more is2. short_by 0 (cut 8 more) (reading_of_opening_numbers bounds text next) store (StoreContentsAreValid bounds store)
+    short_by 0 (cut 17 text) (reading_by_first_line bounds text) store (StoreContentsAreValid bounds store)
+    (λ line rest is. short_by 0 (cut 8 rest) (λ next more. reading_or_short_file_fault 0 (cut 8 more) (reading_by_opening_numbers bounds text next)) store (StoreContentsAreValid bounds store)
+    (λ next more is2. short_by 0 (cut 8 more) (reading_by_opening_numbers bounds text next) store (StoreContentsAreValid bounds store)
     (λ number behind is3. counted_sound bounds text next number behind store is3) is2)
-    (line_by (bytes_eq line first_line) _ (or_short_file_fault 0 (cut 8 rest) (λ next more. or_short_file_fault 0 (cut 8 more) (reading_of_opening_numbers bounds text next))) store is)) e
+    (line_by (bytes_eq line first_line) _ (reading_or_short_file_fault 0 (cut 8 rest) (λ next more. reading_or_short_file_fault 0 (cut 8 more) (reading_by_opening_numbers bounds text next))) store is)) e

@@ -7,12 +7,12 @@ use Rattle.std.proofs.Math.Seq.{take-append_seam}
 use Rattle.hx_store.specs.Stored.{Stored}
 use Rattle.hx_store.specs.Weights.{StoreBounds}
 use Rattle.proxy_store_file.specs.declared.heads.Head.{Head}
-use Rattle.proxy_store_file.specs.declared.store_faults.StoreFault.{StoreFault}
-use Rattle.proxy_store_file.specs.declared.store_faults.StoreFault.TheVariants as fault
+use Rattle.proxy_store_file.specs.declared.store_faults.StoreReadFault.{StoreReadFault}
+use Rattle.proxy_store_file.specs.declared.store_faults.StoreReadFault.TheVariants as fault
 use Rattle.proxy_store_file.specs.Texts.{number_spelling, text_spelling, number_of, is_number, cut}
 use Rattle.proxy_store_file.specs.Heads.{head_spelling, head_spelled_in, head_of_entry, stored_with_content}
-use Rattle.proxy_store_file.specs.Parts.{most_head_bytes}
-use Rattle.proxy_store_file.specs.Stores.{StoreContents, entry_spelling, entries_spelling, first_line_words, first_line, opening_spelling, body_spelling, digest_spelling, store_spelling, LeadingEntryReading, Cut, Shapeless, Found, entry_behind, entry_with_content, entry_with_head, entry_behind_length, leading_entry, entry_fault, StoreReading, or_short_file_fault, reading_of_digest, reading_of_end, reading_unless_entry_fault, reading_after_entry, reading_of_entries, reading_of_opening_numbers, reading_of_first_line, read_store}
+use Rattle.proxy_store_file.specs.Parts.{most_entry_head_bytes}
+use Rattle.proxy_store_file.specs.Stores.{StoreContents, entry_spelling, entries_spelling, first_line_words, first_line, opening_spelling, body_spelling, digest_spelling, store_spelling, LeadingEntryReading, Cut, Shapeless, Found, entry_reading_or_cut, found_entry_with_content, entry_read_on_after_head, entry_behind_length, leading_entry, entry_fault, StoreReading, reading_or_short_file_fault, reading_of_digest, reading_of_end, reading_unless_entry_fault, reading_after_entry, reading_of_entries, reading_by_opening_numbers, reading_by_first_line, read_store}
 use Rattle.proxy_store_file.proofs.TextLaws.{both, cut_found, number_is_spelled}
 use Rattle.proxy_store_file.proofs.HeadLaws.{more_front, head_found, empty}
 
@@ -23,16 +23,16 @@ record EntryBehind (o : Option (List ℕ × List ℕ)) (k : List ℕ → List �
   found : ◌≡◌ {A = Option (List ℕ × List ℕ)} o (Some (read, rest))
   behind : k read rest ≡ Found e more
 
-entry_behind_found : (o : Option (List ℕ × List ℕ)) (k : List ℕ → List ℕ → LeadingEntryReading) (e : Stored) (more : List ℕ) → entry_behind o k ≡ Found e more → EntryBehind o k e more
+entry_behind_found : (o : Option (List ℕ × List ℕ)) (k : List ℕ → List ℕ → LeadingEntryReading) (e : Stored) (more : List ℕ) → entry_reading_or_cut o k ≡ Found e more → EntryBehind o k e more
 entry_behind_found None k e more is = absurd (cc)
 entry_behind_found (Some p) k e more is = record { read = p.0; rest = p.1; found = refl; behind = is }
 
 abbrev head_behind : List ℕ → List ℕ → LeadingEntryReading
-head_behind head more = entry_with_head (head_spelled_in head) more
+head_behind head more = entry_read_on_after_head (head_spelled_in head) more
 
 length_found_by : (t : Bool) (number rest more : List ℕ) (e : Stored)
-    → cond {A = LeadingEntryReading} t (entry_behind (cut (number_of number) rest) head_behind) Shapeless ≡ Found e more
-    → (t ≡ true) × (entry_behind (cut (number_of number) rest) head_behind ≡ Found e more)
+    → cond {A = LeadingEntryReading} t (entry_reading_or_cut (cut (number_of number) rest) head_behind) Shapeless ≡ Found e more
+    → (t ≡ true) × (entry_reading_or_cut (cut (number_of number) rest) head_behind ≡ Found e more)
 length_found_by true number rest more e is = (refl, is)
 length_found_by false number rest more e is = absurd (cc)
 
@@ -41,10 +41,10 @@ head_of_stored : (h : Head) (content : List ℕ) → length content ≡ h.conten
 head_of_stored h content e = ap (λ n. record h { content_length = n }) e
 
 content_found : (o : Option Head) (number head bytes more : List ℕ) (e : Stored) → o ≡ head_spelled_in head → number ≡ number_spelling (length head)
-    → entry_with_head o bytes ≡ Found e more → (number ++ head) ++ bytes ≡ entry_spelling e ++ more
+    → entry_read_on_after_head o bytes ≡ Found e more → (number ++ head) ++ bytes ≡ entry_spelling e ++ more
 content_found None number head bytes more e is spelled found = absurd (cc)
 content_found (Some h) number head bytes more e is spelled found =
-    let q = entry_behind_found (cut h.content_length bytes) (entry_with_content h) e more found in
+    let q = entry_behind_found (cut h.content_length bytes) (found_entry_with_content h) e more found in
     let c = cut_found h.content_length bytes q.read q.rest q.found in
     let entry : stored_with_content h q.read ≡ e = cc in
     let rest : q.rest ≡ more = cc in
@@ -61,8 +61,8 @@ unfolding leading_entry
 entry_is_spelled bytes more e found =
     let p = entry_behind_found (cut 8 bytes) entry_behind_length e more found in
     let c = cut_found 8 bytes p.read p.rest p.found in
-    let l = length_found_by (is_number p.read && nat_le (number_of p.read) most_head_bytes) p.read p.rest more e p.behind in
-    let t = both (is_number p.read) (nat_le (number_of p.read) most_head_bytes) l.0 in
+    let l = length_found_by (is_number p.read && nat_le (number_of p.read) most_entry_head_bytes) p.read p.rest more e p.behind in
+    let t = both (is_number p.read) (nat_le (number_of p.read) most_entry_head_bytes) l.0 in
     let n = number_is_spelled p.read t.0 in
     let q = entry_behind_found (cut (number_of p.read) p.rest) head_behind e more l.1 in
     let d = cut_found (number_of p.read) p.rest q.read q.rest q.found in
@@ -87,7 +87,7 @@ record StoreBehind (o : Option (List ℕ × List ℕ)) (k : List ℕ → List �
   found : ◌≡◌ {A = Option (List ℕ × List ℕ)} o (Some (read, rest))
   behind : k read rest ≡ Ok store
 
-store_behind_found : (n : ℕ) (o : Option (List ℕ × List ℕ)) (k : List ℕ → List ℕ → StoreReading) (store : StoreContents) → or_short_file_fault n o k ≡ Ok store → StoreBehind o k store
+store_behind_found : (n : ℕ) (o : Option (List ℕ × List ℕ)) (k : List ℕ → List ℕ → StoreReading) (store : StoreContents) → reading_or_short_file_fault n o k ≡ Ok store → StoreBehind o k store
 store_behind_found n None k store is = absurd (cc)
 store_behind_found n (Some p) k store is = record { read = p.0; rest = p.1; found = refl; behind = is }
 
@@ -123,7 +123,7 @@ entries_spelling-snoc [] e = sym (append-nil (entry_spelling e))
 entries_spelling-snoc (x ∷ xs) e =
     ap (λ r. r ++ entry_spelling x) (entries_spelling-snoc xs e) ∙ append_assoc (entry_spelling e) (entries_spelling xs) (entry_spelling x)
 
-entry_taken_found : (o : Option StoreFault) (reading : StoreReading) (store : StoreContents) → reading_unless_entry_fault o reading ≡ Ok store → reading ≡ Ok store
+entry_taken_found : (o : Option StoreReadFault) (reading : StoreReading) (store : StoreContents) → reading_unless_entry_fault o reading ≡ Ok store → reading ≡ Ok store
 entry_taken_found None reading store e = e
 entry_taken_found (Some f) reading store e = absurd (cc)
 
@@ -182,13 +182,13 @@ text_is_spelled text body digest split is =
 pub read_texts_are_spelled : (bounds : StoreBounds) (text : List ℕ) (store : StoreContents) → read_store bounds text ≡ Ok store → text ≡ store_spelling store
 unfolding read_store
 read_texts_are_spelled bounds text store e =
-    let p = store_behind_found 0 (cut 17 text) (reading_of_first_line bounds text) store e in
+    let p = store_behind_found 0 (cut 17 text) (reading_by_first_line bounds text) store e in
     let a = cut_found 17 text p.read p.rest p.found in
     let l = line_found_by (bytes_eq p.read first_line) (bytes_eq (take 15 p.read) first_line_words)
-    (or_short_file_fault 0 (cut 8 p.rest) (λ next more. or_short_file_fault 0 (cut 8 more) (reading_of_opening_numbers bounds text next))) store p.behind in
-    let q = store_behind_found 0 (cut 8 p.rest) (λ next more. or_short_file_fault 0 (cut 8 more) (reading_of_opening_numbers bounds text next)) store l.1 in
+    (reading_or_short_file_fault 0 (cut 8 p.rest) (λ next more. reading_or_short_file_fault 0 (cut 8 more) (reading_by_opening_numbers bounds text next))) store p.behind in
+    let q = store_behind_found 0 (cut 8 p.rest) (λ next more. reading_or_short_file_fault 0 (cut 8 more) (reading_by_opening_numbers bounds text next)) store l.1 in
     let b = cut_found 8 p.rest q.read q.rest q.found in
-    let r = store_behind_found 0 (cut 8 q.rest) (reading_of_opening_numbers bounds text q.read) store q.behind in
+    let r = store_behind_found 0 (cut 8 q.rest) (reading_by_opening_numbers bounds text q.read) store q.behind in
     let d = cut_found 8 q.rest r.read r.rest r.found in
     let n = counted_found_by (is_number q.read && is_number r.read) (nat_le (number_of r.read) bounds.entries)
     (reading_of_entries text bounds.bytes (number_of q.read) (number_of r.read) [] r.rest) store r.behind in

@@ -7,7 +7,7 @@ use Rattle.std.proofs.lemmas.Nat.{be_bytes_8, from_be_bytes-to_be_bytes_8}
 use Rattle.std.proofs.lemmas.List.{length-append, length-take-le, take-append-drop}
 use Rattle.std.proofs.Math.Seq.{drop-append_seam, take-append_seam}
 use Rattle.std.proofs.lemmas.Bool.{eqb-true, leb-true, le-leb}
-use Rattle.proxy_store_file.specs.Texts.{number_spelling, number_of, is_number, text_spelling, cut, after, number_of_eight, leading_number, leading_text}
+use Rattle.proxy_store_file.specs.Texts.{number_spelling, number_of, is_number, text_spelling, cut, after, number_of_eight_bytes_and_rest, leading_number, leading_text}
 
 pub same_bytes : (a b : List ℕ) → a ≡ b → bytes_eq a b ≡ true
 same_bytes a b e = (bytes_decides a b).1 e
@@ -80,12 +80,12 @@ number_is_spelled bytes e =
     let p = both (length bytes == 8) (bytes_eq (number_spelling (number_of bytes)) bytes) e in
     (eqb-true (length bytes) 8 p.0, sym ((bytes_decides (number_spelling (number_of bytes)) bytes).0 p.1))
 
-eight_again : (eight more : List ℕ) (n : ℕ) → is_number eight ≡ true → number_of eight ≡ n → number_of_eight eight more ≡ Some (n, more)
+eight_again : (eight more : List ℕ) (n : ℕ) → is_number eight ≡ true → number_of eight ≡ n → number_of_eight_bytes_and_rest eight more ≡ Some (n, more)
 eight_again eight more n spelled number = rw (spelled, number) refl
 
 pub number_again : (n : ℕ) (more : List ℕ) → n < 2 ^ 64 → leading_number (number_spelling n ++ more) ≡ Some (n, more)
 number_again n more fits =
-    ap (λ (o : Option (List ℕ × List ℕ)). after o number_of_eight) (cut_again (number_spelling n) more 8 (length-number_spelling n))
+    ap (λ (o : Option (List ℕ × List ℕ)). after o number_of_eight_bytes_and_rest) (cut_again (number_spelling n) more 8 (length-number_spelling n))
     ∙ eight_again (number_spelling n) more n (is_number_spelled n fits) (number_of_spelled n fits)
 
 eight_found_by : (t : Bool) (eight rest more : List ℕ) (n : ℕ) → (t ≡ true → eight ≡ number_spelling (number_of eight))
@@ -97,7 +97,7 @@ eight_found_by true eight rest more n spelled e =
 
 pub number_found : (bytes more : List ℕ) (n : ℕ) → leading_number bytes ≡ Some (n, more) → bytes ≡ number_spelling n ++ more
 number_found bytes more n e =
-    let p = after_found (cut 8 bytes) number_of_eight (n, more) e in
+    let p = after_found (cut 8 bytes) number_of_eight_bytes_and_rest (n, more) e in
     (cut_found 8 bytes p.read p.rest p.found).0
     ∙ eight_found_by (is_number p.read) p.read p.rest more n (λ spelled. (number_is_spelled p.read spelled).1) p.behind
 

@@ -6,14 +6,14 @@ use Rattle.std.specs.declared.hash.DefaultHasher.{DefaultHasher}
 use Rattle.std.proofs.KnownBytes.{Appends-trans, Appends-nil}
 use Rattle.std.proofs.lemmas.List.{take-append-drop, take_rest, length-append}
 use Rattle.hx_store.specs.Stored.{Stored}
-use Rattle.hx_store.specs.Weights.{entry_evicted_by_weight, entries_after_weight_eviction}
+use Rattle.hx_store.specs.Weights.{entry_evicted_by_weight, entries_after_one_weight_eviction}
 use Rattle.hx_store.proofs.ShedEntries.{shed_is_last, nothing_shed_stays}
 use Rattle.proxy_store_file.specs.declared.store_faults.WriteFault.{WriteFault}
 use Rattle.proxy_store_file.specs.declared.store_faults.WriteFault.TheVariants as fault
 use Rattle.proxy_store_file.specs.Stores.{entry_spelling, entries_spelling, opening_spelling, digest_spelling, store_spelling}
 use Rattle.proxy_store_file.specs.Streams.{store_contents_of}
 use Rattle.proxy_store_file.specs.Texts.{number_spelling}
-use Rattle.proxy_store_file.specs.Writing.{WriterTookBytes, WriterTookAFront, StoreWasNotWritten, IsFirstFaultIfOfContent, entry_write_fault, store_write_fault, first_fault_of_two}
+use Rattle.proxy_store_file.specs.Writing.{WriterTookBytes, WriterTookAFront, StoreWasNotWritten, IsFirstFaultUnlessWriteOrMemory, entry_write_fault, store_write_fault, first_fault_of_two}
 use Rattle.proxy_store_file.proofs.Emptied.{nothing_is_shed}
 use Rattle.proxy_store_file.proofs.Given.{write-nil, write-append}
 
@@ -69,8 +69,8 @@ fault_stays : (next : ℕ) (xs ys : List Stored) (f : WriteFault) → store_writ
 fault_stays next [] ys f is = is
 fault_stays next (x ∷ xs) ys f is = ap (λ o. first_fault_of_two o (entry_write_fault (length (xs ++ ys) + 1) next x)) (fault_stays next xs ys f is)
 
-told_by : (next : ℕ) (xs ys : List Stored) (first : Option WriteFault) (f : WriteFault) → (first ≡ Some f → store_write_fault next (xs ++ ys) ≡ Some f) → IsFirstFaultIfOfContent first f
-    → IsFirstFaultIfOfContent (store_write_fault next (xs ++ ys)) f
+told_by : (next : ℕ) (xs ys : List Stored) (first : Option WriteFault) (f : WriteFault) → (first ≡ Some f → store_write_fault next (xs ++ ys) ≡ Some f) → IsFirstFaultUnlessWriteOrMemory first f
+    → IsFirstFaultUnlessWriteOrMemory (store_write_fault next (xs ++ ys)) f
 told_by next xs ys first fault.Write stays is = tt
 told_by next xs ys first fault.OutOfMemory stays is = tt
 told_by next xs ys first f stays is = stays is
@@ -89,46 +89,46 @@ nothing_written next all a h none = record { gone = []; whole = append-nil all; 
 pub took_none : (a : Bytes) (h : DefaultHasher) → WriterTookBytes a a h h []
 took_none a h = record { appends = Appends-nil a; hashed = sym (write-nil h) }
 
-pub one_went : (es held : List Stored) (e : Stored) → entry_evicted_by_weight 0 es ≡ Some e → held ≡ entries_after_weight_eviction 0 es → length held + 1 ≡ length es
-one_went es held e shed is =
-    let long : length (entries_after_weight_eviction 0 es) + length (e ∷ []) ≡ length es = sym (length-append (entries_after_weight_eviction 0 es) (e ∷ [])) ∙ ap length (shed_is_last 0 es e shed) in
+pub one_went : (es held : List Stored) (e : Stored) → entry_evicted_by_weight 0 es ≡ Some e → held ≡ entries_after_one_weight_eviction 0 es → length held + 1 ≡ length es
+one_went es held e evict_last_beyond_weight is =
+    let long : length (entries_after_one_weight_eviction 0 es) + length (e ∷ []) ≡ length es = sym (length-append (entries_after_one_weight_eviction 0 es) (e ∷ [])) ∙ ap length (shed_is_last 0 es e evict_last_beyond_weight) in
     omega (arith, ap length is, long)
 
 -- the last one went
-went : (es all gone held : List Stored) (e : Stored) → entry_evicted_by_weight 0 es ≡ Some e → held ≡ entries_after_weight_eviction 0 es → es ++ gone ≡ all → held ++ e ∷ gone ≡ all
-went es all gone held e shed is whole =
+went : (es all gone held : List Stored) (e : Stored) → entry_evicted_by_weight 0 es ≡ Some e → held ≡ entries_after_one_weight_eviction 0 es → es ++ gone ≡ all → held ++ e ∷ gone ≡ all
+went es all gone held e evict_last_beyond_weight is whole =
     ap (λ xs. xs ++ e ∷ gone) is
-    ∙ (sym (append_assoc (entries_after_weight_eviction 0 es) (e ∷ []) gone) ∙ (ap (λ xs. xs ++ gone) (shed_is_last 0 es e shed) ∙ whole))
+    ∙ (sym (append_assoc (entries_after_one_weight_eviction 0 es) (e ∷ []) gone) ∙ (ap (λ xs. xs ++ gone) (shed_is_last 0 es e evict_last_beyond_weight) ∙ whole))
 
 pub one_more_written : (next number : ℕ) (all es held : List Stored) (e : Stored) (a b c : Bytes) (h0 h1 h2 : DefaultHasher) → SoFarWritten next all es a b h0 h1 number
-    → entry_evicted_by_weight 0 es ≡ Some e → held ≡ entries_after_weight_eviction 0 es → WriterTookBytes b c h1 h2 (entry_spelling e) → entry_write_fault (number + 1) next e ≡ None
+    → entry_evicted_by_weight 0 es ≡ Some e → held ≡ entries_after_one_weight_eviction 0 es → WriterTookBytes b c h1 h2 (entry_spelling e) → entry_write_fault (number + 1) next e ≡ None
     → SoFarWritten next all held a c h0 h2 (number + 1)
-one_more_written next number all es held e a b c h0 h1 h2 s shed is took told = record {
+one_more_written next number all es held e a b c h0 h1 h2 s evict_last_beyond_weight is took told = record {
   gone = e ∷ s.gone;
-  whole = went es all s.gone held e shed is s.whole;
+  whole = went es all s.gone held e evict_last_beyond_weight is s.whole;
   took = took_more a b c h0 h1 h2 (entries_spelling s.gone) (entry_spelling e) s.took took;
   told = ap (λ o. first_fault_of_two o (entry_write_fault (length s.gone + 1) next e)) s.told ∙ (ap (λ n. entry_write_fault (n + 1) next e) (sym s.counted) ∙ told);
   counted = omega (arith, s.counted);
 }
 
 pub one_not_written : (next number : ℕ) (all es held : List Stored) (e : Stored) (a b c : Bytes) (h0 h1 : DefaultHasher) (f : WriteFault) → SoFarWritten next all es a b h0 h1 number
-    → entry_evicted_by_weight 0 es ≡ Some e → held ≡ entries_after_weight_eviction 0 es → StoreWasNotWritten b c (entry_spelling e) (entry_write_fault (number + 1) next e) f
+    → entry_evicted_by_weight 0 es ≡ Some e → held ≡ entries_after_one_weight_eviction 0 es → StoreWasNotWritten b c (entry_spelling e) (entry_write_fault (number + 1) next e) f
     → StoreWasNotWritten a c (entries_spelling all) (store_write_fault next all) f
-one_not_written next number all es held e a b c h0 h1 f s shed is n =
-    let whole = went es all s.gone held e shed is s.whole in
+one_not_written next number all es held e a b c h0 h1 f s evict_last_beyond_weight is n =
+    let whole = went es all s.gone held e evict_last_beyond_weight is s.whole in
     let first : store_write_fault next (e ∷ s.gone) ≡ entry_write_fault (number + 1) next e =
     ap (λ o. first_fault_of_two o (entry_write_fault (length s.gone + 1) next e)) s.told ∙ ap (λ n. entry_write_fault (n + 1) next e) (sym s.counted) in
     record {
       took = subst (WriterTookAFront a c) (sym (entries_spelling-append held (e ∷ s.gone)) ∙ ap entries_spelling whole)
           (front_before a c (entries_spelling s.gone ++ entry_spelling e) (entries_spelling held)
           (front_behind_all a b c (entries_spelling s.gone) (entry_spelling e) s.took.appends n.took));
-      why = subst (λ xs. IsFirstFaultIfOfContent (store_write_fault next xs) f) whole
+      why = subst (λ xs. IsFirstFaultUnlessWriteOrMemory (store_write_fault next xs) f) whole
           (told_by next held (e ∷ s.gone) (entry_write_fault (number + 1) next e) f (λ so. fault_stays next held (e ∷ s.gone) f (first ∙ so)) n.why);
     }
 
 pub rest_is_left : (next number : ℕ) (all es held : List Stored) (e : Stored) (a b : Bytes) (h0 h1 : DefaultHasher) → SoFarWritten next all es a b h0 h1 number
-    → entry_evicted_by_weight 0 es ≡ Some e → held ≡ entries_after_weight_eviction 0 es → (gone : List Stored) × (held ++ gone ≡ all)
-rest_is_left next number all es held e a b h0 h1 s shed is = (e ∷ s.gone, went es all s.gone held e shed is s.whole)
+    → entry_evicted_by_weight 0 es ≡ Some e → held ≡ entries_after_one_weight_eviction 0 es → (gone : List Stored) × (held ++ gone ≡ all)
+rest_is_left next number all es held e a b h0 h1 s evict_last_beyond_weight is = (e ∷ s.gone, went es all s.gone held e evict_last_beyond_weight is s.whole)
 
 all_gone : (next number : ℕ) (all es : List Stored) (a b : Bytes) (h0 h1 : DefaultHasher) (s : SoFarWritten next all es a b h0 h1 number) → entry_evicted_by_weight 0 es ≡ None → s.gone ≡ all
 all_gone next number all es a b h0 h1 s none = ap (λ xs. xs ++ s.gone) (sym (nothing_is_shed es none)) ∙ s.whole
@@ -141,11 +141,11 @@ pub all_told : (next number : ℕ) (all es : List Stored) (a b : Bytes) (h0 h1 :
     → store_write_fault next all ≡ None
 all_told next number all es a b h0 h1 s none = subst (λ xs. store_write_fault next xs ≡ None) (all_gone next number all es a b h0 h1 s none) s.told
 
-pub none_left : (es held : List Stored) → entry_evicted_by_weight 0 es ≡ None → held ≡ entries_after_weight_eviction 0 es → held ≡ []
+pub none_left : (es held : List Stored) → entry_evicted_by_weight 0 es ≡ None → held ≡ entries_after_one_weight_eviction 0 es → held ≡ []
 none_left es held none is = is ∙ (nothing_shed_stays 0 es none ∙ nothing_is_shed es none)
 
 pub rest_is_all : (next number : ℕ) (all es held : List Stored) (a b : Bytes) (h0 h1 : DefaultHasher) → SoFarWritten next all es a b h0 h1 number → entry_evicted_by_weight 0 es ≡ None
-    → held ≡ entries_after_weight_eviction 0 es → (gone : List Stored) × (held ++ gone ≡ all)
+    → held ≡ entries_after_one_weight_eviction 0 es → (gone : List Stored) × (held ++ gone ≡ all)
 rest_is_all next number all es held a b h0 h1 s none is = (s.gone, ap (λ xs. xs ++ s.gone) (is ∙ nothing_shed_stays 0 es none) ∙ s.whole)
 
 -- ---- the whole

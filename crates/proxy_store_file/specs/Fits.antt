@@ -14,8 +14,8 @@ use Rattle.hx_store.specs.Serials.{serial_is_in, SerialsAreDistinct}
 use Rattle.hx_store.specs.Shelf.{serials}
 use Rattle.hx_store.specs.Weights.{StoreBounds, IsWithinBounds, weight_of_entry, total_weight}
 use Rattle.proxy_store_file.specs.Heads.{head_spelling, head_of_entry}
-use Rattle.proxy_store_file.specs.Parts.{most_head_bytes, first_invalid_part}
-use Rattle.proxy_store_file.specs.Stores.{StoreContents, weight_exceeds_bound}
+use Rattle.proxy_store_file.specs.Parts.{most_entry_head_bytes, first_invalid_part}
+use Rattle.proxy_store_file.specs.Stores.{StoreContents, store_weight_exceeds_bound}
 
 -- its length is a number of 64 bits, as that of each text in memory is
 abbrev pub TextLengthIs64Bit : List ℕ → Type 0
@@ -56,11 +56,11 @@ pub record EntryNumbersAre64Bit (e : Stored) : Type 0 where
 -- below the next, and with it the store doesn't weigh too much
 pub record EntryCanBeWritten (most : Option ℕ) (next_serial : ℕ) (held : List Stored) (e : Stored) : Type 0 where
   pub fits : EntryNumbersAre64Bit e
-  pub short : length (head_spelling (head_of_entry e)) ≤ most_head_bytes
+  pub short : length (head_spelling (head_of_entry e)) ≤ most_entry_head_bytes
   pub parts : first_invalid_part e ≡ None
   pub is_new : serial_is_in e.serial (serials held) ≡ false
   pub below_next : e.serial < next_serial
-  pub weighs : weight_exceeds_bound most (total_weight (e ∷ held)) ≡ false
+  pub weighs : store_weight_exceeds_bound most (total_weight (e ∷ held)) ≡ false
 
 abbrev pub EntriesCanBeWritten : Option ℕ → ℕ → List Stored → Type 0
 EntriesCanBeWritten most next_serial [] = Unit {0}
@@ -73,7 +73,7 @@ pub record EntryIsValidInStore (most : Option ℕ) (next_serial : ℕ) (held : L
   pub parts : first_invalid_part e ≡ None
   pub is_new : serial_is_in e.serial (serials held) ≡ false
   pub below_next : nat_le next_serial e.serial ≡ false
-  pub weighs : weight_exceeds_bound most (total_weight (e ∷ held)) ≡ false
+  pub weighs : store_weight_exceeds_bound most (total_weight (e ∷ held)) ≡ false
 
 abbrev pub EntriesAreValidInStore : Option ℕ → ℕ → List Stored → Type 0
 EntriesAreValidInStore most next_serial [] = Unit {0}

@@ -6,11 +6,11 @@ use Rattle.proxy_store_file.specs.declared.head_reading.LeadingValue.{LeadingVal
 use Rattle.proxy_store_file.specs.declared.head_reading.LeadingValue.TheVariants.{Cut, Absent, Value}
 
 -- nothing is read; of bytes for which memory ran out nothing is said
-abbrev pub HeadStopMatchesReading : {A : Type 0} → HeadStop → Option A → Type 0
-HeadStopMatchesReading Shapeless read = read ≡ None
-HeadStopMatchesReading OutOfMemory read = Unit {0}
+abbrev pub HeadReadFailureMatchesReading : {A : Type 0} → HeadStop → Option A → Type 0
+HeadReadFailureMatchesReading Shapeless read = read ≡ None
+HeadReadFailureMatchesReading OutOfMemory read = Unit {0}
 
-abbrev pub leading_value_as_read : LeadingValue → Option (Option (List ℕ) × List ℕ)
-leading_value_as_read Cut = None
-leading_value_as_read (Absent rest) = Some (None, rest.now)
-leading_value_as_read (Value value rest) = Some (Some value.now, rest.now)
+abbrev pub model_of_leading_value : LeadingValue → Option (Option (List ℕ) × List ℕ)
+model_of_leading_value Cut = None
+model_of_leading_value (Absent rest) = Some (None, rest.now)
+model_of_leading_value (Value value rest) = Some (Some value.now, rest.now)

@@ -38,8 +38,8 @@ line_spelling line = text_spelling line.name ++ text_spelling line.value
 abbrev pub lines_spelling : List Field → List ℕ
 lines_spelling lines = number_spelling (length lines) ++ flat_map line_spelling lines
 
-abbrev pub numbers_spelling : Head → List ℕ
-numbers_spelling head =
+abbrev pub head_numbers_spelling : Head → List ℕ
+head_numbers_spelling head =
     number_spelling head.serial ++ number_spelling head.status ++ number_spelling head.content_length
     ++ times_spelling head.times
 
@@ -52,7 +52,8 @@ purge_spelling (Some moment) = number_spelling moment
 -- own: so a response that no purge expired is spelled as before there were such purges ("A purge in a store's file")
 abbrev pub head_spelling : Head → List ℕ
 head_spelling head =
-    numbers_spelling head ++ key_spelling head.key ++ nominated_spelling head.nominated ++ lines_spelling head.fields
+    head_numbers_spelling head ++ key_spelling head.key ++ nominated_spelling head.nominated
+    ++ lines_spelling head.fields
     ++ purge_spelling head.times.expired
 
 -- the number at the front, where it is below a bound
@@ -63,36 +64,38 @@ abbrev pub leading_number_below : ℕ → List ℕ → Option (ℕ × List ℕ)
 leading_number_below bound bytes = after (leading_number bytes) (below bound)
 
 -- the times behind those that were read
-abbrev pub times_with_response : ℕ → ℕ → ℕ → ℕ → List ℕ → Option (Times × List ℕ)
-times_with_response date age request response rest =
+abbrev pub times_with_response_and_rest : ℕ → ℕ → ℕ → ℕ → List ℕ → Option (Times × List ℕ)
+times_with_response_and_rest date age request response rest =
     Some (
       record { date = date; age_value = age; request_time = request; response_time = response; expired = None },
       rest,
     )
 
-abbrev pub times_with_request : ℕ → ℕ → ℕ → List ℕ → Option (Times × List ℕ)
-times_with_request date age request rest = after (leading_number rest) (times_with_response date age request)
+abbrev pub times_read_on_after_request : ℕ → ℕ → ℕ → List ℕ → Option (Times × List ℕ)
+times_read_on_after_request date age request rest = after (leading_number rest)
+    (times_with_response_and_rest date age request)
 
-abbrev pub times_with_age : ℕ → ℕ → List ℕ → Option (Times × List ℕ)
-times_with_age date age rest = after (leading_number rest) (times_with_request date age)
+abbrev pub times_read_on_after_age : ℕ → ℕ → List ℕ → Option (Times × List ℕ)
+times_read_on_after_age date age rest = after (leading_number rest) (times_read_on_after_request date age)
 
-abbrev pub times_with_date : ℕ → List ℕ → Option (Times × List ℕ)
-times_with_date date rest = after (leading_number_below (2 ^ 32) rest) (times_with_age date)
+abbrev pub times_read_on_after_date : ℕ → List ℕ → Option (Times × List ℕ)
+times_read_on_after_date date rest = after (leading_number_below (2 ^ 32) rest) (times_read_on_after_age date)
 
 abbrev pub leading_times : List ℕ → Option (Times × List ℕ)
-leading_times bytes = after (leading_number bytes) times_with_date
+leading_times bytes = after (leading_number bytes) times_read_on_after_date
 
-abbrev pub key_with_path : ℕ → List ℕ → List ℕ → List ℕ → Option (Key × List ℕ)
-key_with_path port host path_query rest = Some (record { host = host; port = port; path_query = path_query }, rest)
+abbrev pub key_with_path_and_rest : ℕ → List ℕ → List ℕ → List ℕ → Option (Key × List ℕ)
+key_with_path_and_rest port host path_query rest = Some
+    (record { host = host; port = port; path_query = path_query }, rest)
 
-abbrev pub key_with_host_and_rest : ℕ → List ℕ → List ℕ → Option (Key × List ℕ)
-key_with_host_and_rest port host rest = after (leading_text rest) (key_with_path port host)
+abbrev pub key_read_on_after_host : ℕ → List ℕ → List ℕ → Option (Key × List ℕ)
+key_read_on_after_host port host rest = after (leading_text rest) (key_with_path_and_rest port host)
 
-abbrev pub key_with_port : ℕ → List ℕ → Option (Key × List ℕ)
-key_with_port port rest = after (leading_text rest) (key_with_host_and_rest port)
+abbrev pub key_read_on_after_port : ℕ → List ℕ → Option (Key × List ℕ)
+key_read_on_after_port port rest = after (leading_text rest) (key_read_on_after_host port)
 
 abbrev pub leading_key : List ℕ → Option (Key × List ℕ)
-leading_key bytes = after (leading_number_below (2 ^ 16) bytes) key_with_port
+leading_key bytes = after (leading_number_below (2 ^ 16) bytes) key_read_on_after_port
 
 abbrev pub some_value : List ℕ → List ℕ → Option (Option (List ℕ) × List ℕ)
 some_value value rest = Some (Some value, rest)
@@ -103,14 +106,14 @@ value_after_length n rest = if n == 0 then Some (None, rest) else after (cut (n 
 abbrev pub leading_value : List ℕ → Option (Option (List ℕ) × List ℕ)
 leading_value bytes = after (leading_number bytes) value_after_length
 
-abbrev pub nominated_value_with_text : List ℕ → Option (List ℕ) → List ℕ → Option (NominatedValue × List ℕ)
-nominated_value_with_text name value rest = Some (record { name = name; value = value }, rest)
+abbrev pub nominated_value_and_rest : List ℕ → Option (List ℕ) → List ℕ → Option (NominatedValue × List ℕ)
+nominated_value_and_rest name value rest = Some (record { name = name; value = value }, rest)
 
-abbrev pub nominated_value_with_name : List ℕ → List ℕ → Option (NominatedValue × List ℕ)
-nominated_value_with_name name rest = after (leading_value rest) (nominated_value_with_text name)
+abbrev pub nominated_value_read_on_after_name : List ℕ → List ℕ → Option (NominatedValue × List ℕ)
+nominated_value_read_on_after_name name rest = after (leading_value rest) (nominated_value_and_rest name)
 
 abbrev pub leading_nominated_value : List ℕ → Option (NominatedValue × List ℕ)
-leading_nominated_value bytes = after (leading_text bytes) nominated_value_with_name
+leading_nominated_value bytes = after (leading_text bytes) nominated_value_read_on_after_name
 
 -- so many more, behind those that were read
 abbrev pub leading_nominated_values_after : List NominatedValue → ℕ → List ℕ → Option (List NominatedValue × List ℕ)
@@ -118,42 +121,42 @@ leading_nominated_values_after read zero bytes = Some (read, bytes)
 leading_nominated_values_after read (suc n) bytes =
     after (leading_nominated_value bytes) (λ kept rest. leading_nominated_values_after (read ++ kept ∷ []) n rest)
 
-abbrev pub leading_nominated_values : List ℕ → Option (List NominatedValue × List ℕ)
-leading_nominated_values bytes = after (leading_number bytes) (leading_nominated_values_after [])
+abbrev pub leading_list_of_nominated_values : List ℕ → Option (List NominatedValue × List ℕ)
+leading_list_of_nominated_values bytes = after (leading_number bytes) (leading_nominated_values_after [])
 
-abbrev pub line_with_value : List ℕ → List ℕ → List ℕ → Option (Field × List ℕ)
-line_with_value name value rest = Some (record { name = name; value = value }, rest)
+abbrev pub field_line_and_rest : List ℕ → List ℕ → List ℕ → Option (Field × List ℕ)
+field_line_and_rest name value rest = Some (record { name = name; value = value }, rest)
 
-abbrev pub line_with_name : List ℕ → List ℕ → Option (Field × List ℕ)
-line_with_name name rest = after (leading_text rest) (line_with_value name)
+abbrev pub line_read_on_after_name : List ℕ → List ℕ → Option (Field × List ℕ)
+line_read_on_after_name name rest = after (leading_text rest) (field_line_and_rest name)
 
-abbrev pub leading_line : List ℕ → Option (Field × List ℕ)
-leading_line bytes = after (leading_text bytes) line_with_name
+abbrev pub leading_field_line : List ℕ → Option (Field × List ℕ)
+leading_field_line bytes = after (leading_text bytes) line_read_on_after_name
 
 -- so many more, behind those that were read
-abbrev pub leading_lines_after : List Field → ℕ → List ℕ → Option (List Field × List ℕ)
-leading_lines_after read zero bytes = Some (read, bytes)
-leading_lines_after read (suc n) bytes =
-    after (leading_line bytes) (λ line rest. leading_lines_after (read ++ line ∷ []) n rest)
+abbrev pub leading_field_lines_after : List Field → ℕ → List ℕ → Option (List Field × List ℕ)
+leading_field_lines_after read zero bytes = Some (read, bytes)
+leading_field_lines_after read (suc n) bytes =
+    after (leading_field_line bytes) (λ line rest. leading_field_lines_after (read ++ line ∷ []) n rest)
 
-abbrev pub leading_lines : List ℕ → Option (List Field × List ℕ)
-leading_lines bytes = after (leading_number bytes) (leading_lines_after [])
+abbrev pub leading_field_lines : List ℕ → Option (List Field × List ℕ)
+leading_field_lines bytes = after (leading_number bytes) (leading_field_lines_after [])
 
 -- nothing follows it
 abbrev pub whole : {A : Type 0} → A → List ℕ → Option A
 whole read rest = if length rest == 0 then Some read else None
 
 -- the times of a head behind whose lines this stands: nothing, or the moment of a purge
-abbrev pub times_with_purge : Times → ℕ → List ℕ → Option Times
-times_with_purge times moment rest = whole (record times { expired = Some moment }) rest
+abbrev pub times_with_purge_if_at_end : Times → ℕ → List ℕ → Option Times
+times_with_purge_if_at_end times moment rest = whole (record times { expired = Some moment }) rest
 
 abbrev pub stored_times_with_purge_if_any : Times → List ℕ → Option Times
 stored_times_with_purge_if_any times rest =
-    if length rest == 0 then Some times else after (leading_number rest) (times_with_purge times)
+    if length rest == 0 then Some times else after (leading_number rest) (times_with_purge_if_at_end times)
 
 -- nothing of a head was read
-abbrev pub empty_head : Head
-empty_head = record {
+abbrev pub unread_entry_head : Head
+unread_entry_head = record {
   serial = 0;
   status = 0;
   content_length = 0;
@@ -164,36 +167,40 @@ empty_head = record {
 }
 
 -- the head behind its parts that were read
-abbrev pub head_with_lines : Head → List Field → List ℕ → Option Head
-head_with_lines head fields rest =
+abbrev pub head_read_on_after_lines : Head → List Field → List ℕ → Option Head
+head_read_on_after_lines head fields rest =
     option_map (λ times. record head {
       times = times;
       fields = fields;
     }) (stored_times_with_purge_if_any head.times rest)
 
-abbrev pub head_with_nominated : Head → List NominatedValue → List ℕ → Option Head
-head_with_nominated head nominated rest =
-    after (leading_lines rest) (head_with_lines (record head { nominated = nominated }))
+abbrev pub head_read_on_after_nominated : Head → List NominatedValue → List ℕ → Option Head
+head_read_on_after_nominated head nominated rest =
+    after (leading_field_lines rest) (head_read_on_after_lines (record head { nominated = nominated }))
 
-abbrev pub head_with_key : Head → Key → List ℕ → Option Head
-head_with_key head key rest = after (leading_nominated_values rest) (head_with_nominated (record head { key = key }))
+abbrev pub head_read_on_after_key : Head → Key → List ℕ → Option Head
+head_read_on_after_key head key rest = after (leading_list_of_nominated_values rest)
+    (head_read_on_after_nominated (record head { key = key }))
 
-abbrev pub head_with_times : Head → Times → List ℕ → Option Head
-head_with_times head times rest = after (leading_key rest) (head_with_key (record head { times = times }))
+abbrev pub head_read_on_after_times : Head → Times → List ℕ → Option Head
+head_read_on_after_times head times rest = after (leading_key rest)
+    (head_read_on_after_key (record head { times = times }))
 
-abbrev pub head_with_length : Head → ℕ → List ℕ → Option Head
-head_with_length head n rest = after (leading_times rest) (head_with_times (record head { content_length = n }))
+abbrev pub head_read_on_after_length : Head → ℕ → List ℕ → Option Head
+head_read_on_after_length head n rest = after (leading_times rest)
+    (head_read_on_after_times (record head { content_length = n }))
 
-abbrev pub head_with_status : Head → ℕ → List ℕ → Option Head
-head_with_status head status rest =
-    after (leading_number rest) (head_with_length (record head { status = status }))
+abbrev pub head_read_on_after_status : Head → ℕ → List ℕ → Option Head
+head_read_on_after_status head status rest =
+    after (leading_number rest) (head_read_on_after_length (record head { status = status }))
 
-abbrev pub head_with_serial : ℕ → List ℕ → Option Head
-head_with_serial serial rest =
-    after (leading_number_below (2 ^ 16) rest) (head_with_status (record empty_head { serial = serial }))
+abbrev pub head_read_on_after_serial : ℕ → List ℕ → Option Head
+head_read_on_after_serial serial rest =
+    after (leading_number_below (2 ^ 16) rest)
+    (head_read_on_after_status (record unread_entry_head { serial = serial }))
 
 unfoldable pub head_spelled_in : List ℕ → Option Head
-head_spelled_in bytes = after (leading_number bytes) head_with_serial
+head_spelled_in bytes = after (leading_number bytes) head_read_on_after_serial
 
 -- an entry without its content, and with it
 abbrev pub head_of_entry : Stored → Head

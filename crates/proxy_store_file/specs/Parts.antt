@@ -19,12 +19,12 @@ use Rattle.proxy_store_file.specs.declared.store_faults.EntryPart.TheVariants.{K
 
 -- The most bytes of a head, and so of each text in it, and the most lines.
 -- That is sixteen heads of the greatest length that is read ("The head of an entry is bounded" in docs/DECISIONS_STORE.md).
-abbrev pub most_head_bytes : ℕ
-most_head_bytes = 524288
+abbrev pub most_entry_head_bytes : ℕ
+most_entry_head_bytes = 524288
 
 -- a final status of three digits (RFC 9110, section 15)
-abbrev pub is_final_status : ℕ → Bool
-is_final_status status = nat_le 200 status && nat_le status 999
+abbrev pub is_three_digit_final_status : ℕ → Bool
+is_three_digit_final_status status = nat_le 200 status && nat_le status 999
 
 abbrev pub has_uppercase_letter : List ℕ → Bool
 has_uppercase_letter text = list_any is_ascii_uppercase text
@@ -54,10 +54,10 @@ abbrev pub is_valid_value_byte : ℕ → Bool
 is_valid_value_byte b = (b == 9) || (nat_le 32 b && not (b == 127))
 
 abbrev pub are_valid_value_bytes : List ℕ → Bool
-are_valid_value_bytes value = nat_le (length value) most_head_bytes && list_all is_valid_value_byte value
+are_valid_value_bytes value = nat_le (length value) most_entry_head_bytes && list_all is_valid_value_byte value
 
 abbrev pub is_valid_field_name : List ℕ → Bool
-is_valid_field_name name = nat_le (length name) most_head_bytes && is_token name
+is_valid_field_name name = nat_le (length name) most_entry_head_bytes && is_token name
 
 -- a combined value may begin or end with the blank of a comma
 abbrev pub is_valid_nominated_text : Option (List ℕ) → Bool
@@ -68,7 +68,8 @@ abbrev pub is_valid_nominated_value : NominatedValue → Bool
 is_valid_nominated_value kept = is_valid_field_name kept.name && is_valid_nominated_text kept.value
 
 abbrev pub are_valid_nominated_values : List NominatedValue → Bool
-are_valid_nominated_values values = nat_le (length values) most_head_bytes && list_all is_valid_nominated_value values
+are_valid_nominated_values values = nat_le (length values) most_entry_head_bytes
+    && list_all is_valid_nominated_value values
 
 -- field-line = field-name ":" OWS field-value OWS (RFC 9112, section 5)
 abbrev pub is_valid_field_line : Field → Bool
@@ -76,12 +77,12 @@ is_valid_field_line line = is_valid_field_name line.name && are_valid_value_byte
     && bytes_eq (trimmed line.value) line.value
 
 abbrev pub are_valid_field_lines : List Field → Bool
-are_valid_field_lines lines = nat_le (length lines) most_head_bytes && list_all is_valid_field_line lines
+are_valid_field_lines lines = nat_le (length lines) most_entry_head_bytes && list_all is_valid_field_line lines
 
 -- the first part that isn't what it must be
 unfoldable pub first_invalid_part : Stored → Option EntryPart
 first_invalid_part e =
-    if not (is_final_status e.status) then Some Status
+    if not (is_three_digit_final_status e.status) then Some Status
     else if not (are_valid_times e.times) then Some TimesPart
     else if not (is_valid_stored_key e.key) then Some KeyPart
     else if not (are_valid_nominated_values e.nominated) then Some Nominated

@@ -13,11 +13,11 @@ use Rattle.hx_store.specs.Weights.{StoreBounds, total_weight}
 use Rattle.proxy_store_file.specs.declared.heads.Head.{Head}
 use Rattle.proxy_store_file.specs.declared.store_faults.EntryPart.{EntryPart}
 use Rattle.proxy_store_file.specs.declared.store_faults.EntryPart.TheVariants as part
-use Rattle.proxy_store_file.specs.declared.store_faults.StoreFault.{StoreFault}
-use Rattle.proxy_store_file.specs.declared.store_faults.StoreFault.TheVariants as fault
+use Rattle.proxy_store_file.specs.declared.store_faults.StoreReadFault.{StoreReadFault}
+use Rattle.proxy_store_file.specs.declared.store_faults.StoreReadFault.TheVariants as fault
 use Rattle.proxy_store_file.specs.Texts.{number_spelling, text_spelling, number_of, is_number, cut}
 use Rattle.proxy_store_file.specs.Heads.{head_spelling, head_spelled_in, head_of_entry, stored_with_content}
-use Rattle.proxy_store_file.specs.Parts.{most_head_bytes, first_invalid_part}
+use Rattle.proxy_store_file.specs.Parts.{most_entry_head_bytes, first_invalid_part}
 
 -- the entries that are held, the latest stored or used first, and the serial of the next one
 pub record StoreContents : Type 0 where
@@ -61,53 +61,56 @@ pub data LeadingEntryReading : Type 0 where
   Shapeless : LeadingEntryReading
   Found : (entry : Stored) (rest : List ℕ) → LeadingEntryReading
 
-abbrev pub entry_behind : Option (List ℕ × List ℕ) → (List ℕ → List ℕ → LeadingEntryReading) → LeadingEntryReading
-entry_behind None read = Cut
-entry_behind (Some p) read = read p.0 p.1
+abbrev pub entry_reading_or_cut : Option (List ℕ × List ℕ) → (List ℕ → List ℕ → LeadingEntryReading)
+    → LeadingEntryReading
+entry_reading_or_cut None read = Cut
+entry_reading_or_cut (Some p) read = read p.0 p.1
 
-abbrev pub entry_with_content : Head → List ℕ → List ℕ → LeadingEntryReading
-entry_with_content head content rest = Found (stored_with_content head content) rest
+abbrev pub found_entry_with_content : Head → List ℕ → List ℕ → LeadingEntryReading
+found_entry_with_content head content rest = Found (stored_with_content head content) rest
 
-abbrev pub entry_with_head : Option Head → List ℕ → LeadingEntryReading
-entry_with_head None rest = Shapeless
-entry_with_head (Some head) rest = entry_behind (cut head.content_length rest) (entry_with_content head)
+abbrev pub entry_read_on_after_head : Option Head → List ℕ → LeadingEntryReading
+entry_read_on_after_head None rest = Shapeless
+entry_read_on_after_head (Some head) rest = entry_reading_or_cut (cut head.content_length rest)
+    (found_entry_with_content head)
 
 abbrev pub entry_behind_length : List ℕ → List ℕ → LeadingEntryReading
 entry_behind_length number rest =
-    if is_number number && nat_le (number_of number) most_head_bytes
-    then entry_behind (cut (number_of number) rest) (λ head more. entry_with_head (head_spelled_in head) more)
+    if is_number number && nat_le (number_of number) most_entry_head_bytes
+    then entry_reading_or_cut (cut (number_of number) rest)
+    (λ head more. entry_read_on_after_head (head_spelled_in head) more)
     else Shapeless
 
 unfoldable pub leading_entry : List ℕ → LeadingEntryReading
-leading_entry bytes = entry_behind (cut 8 bytes) entry_behind_length
+leading_entry bytes = entry_reading_or_cut (cut 8 bytes) entry_behind_length
 
 -- a store with this weight would weigh too much
-abbrev pub weight_exceeds_bound : Option ℕ → ℕ → Bool
-weight_exceeds_bound None weight = false
-weight_exceeds_bound (Some most) weight = nat_lt most weight
+abbrev pub store_weight_exceeds_bound : Option ℕ → ℕ → Bool
+store_weight_exceeds_bound None weight = false
+store_weight_exceeds_bound (Some most) weight = nat_lt most weight
 
 -- why the entry of this number may not stand in front of those that were read, if its parts are what they must be
-abbrev pub fault_among_entries : ℕ → Option ℕ → ℕ → List Stored → Stored → Option StoreFault
-fault_among_entries n most next_serial held e =
+abbrev pub entry_fault_against_held : ℕ → Option ℕ → ℕ → List Stored → Stored → Option StoreReadFault
+entry_fault_against_held n most next_serial held e =
     if serial_is_in e.serial (serials held) || nat_le next_serial e.serial then Some (fault.Serial n)
-    else if weight_exceeds_bound most (total_weight (e ∷ held)) then Some (fault.Weight n)
+    else if store_weight_exceeds_bound most (total_weight (e ∷ held)) then Some (fault.Weight n)
     else None
 
-abbrev pub fault_of_part : ℕ → Option EntryPart → Option StoreFault → Option StoreFault
+abbrev pub fault_of_part : ℕ → Option EntryPart → Option StoreReadFault → Option StoreReadFault
 fault_of_part n None other = other
 fault_of_part n (Some p) other = Some (fault.Entry n p)
 
-abbrev pub entry_fault : ℕ → Option ℕ → ℕ → List Stored → Stored → Option StoreFault
+abbrev pub entry_fault : ℕ → Option ℕ → ℕ → List Stored → Stored → Option StoreReadFault
 entry_fault n most next_serial held e =
-    fault_of_part n (first_invalid_part e) (fault_among_entries n most next_serial held e)
+    fault_of_part n (first_invalid_part e) (entry_fault_against_held n most next_serial held e)
 
 abbrev pub StoreReading : Type 0
-StoreReading = Result StoreContents StoreFault
+StoreReading = Result StoreContents StoreReadFault
 
 -- so many bytes; where there are fewer, the file is short, with so many whole entries
-abbrev pub or_short_file_fault : ℕ → Option (List ℕ × List ℕ) → (List ℕ → List ℕ → StoreReading) → StoreReading
-or_short_file_fault n None read = Err (fault.Short n)
-or_short_file_fault n (Some p) read = read p.0 p.1
+abbrev pub reading_or_short_file_fault : ℕ → Option (List ℕ × List ℕ) → (List ℕ → List ℕ → StoreReading) → StoreReading
+reading_or_short_file_fault n None read = Err (fault.Short n)
+reading_or_short_file_fault n (Some p) read = read p.0 p.1
 
 abbrev pub reading_of_digest : List ℕ → StoreContents → List ℕ → List ℕ → StoreReading
 reading_of_digest body store digest rest =
@@ -117,10 +120,10 @@ reading_of_digest body store digest rest =
 -- the digest is that of what stands in front of it
 abbrev pub reading_of_end : List ℕ → StoreContents → List ℕ → StoreReading
 reading_of_end text store rest =
-    or_short_file_fault (length store.entries) (cut 8 rest)
+    reading_or_short_file_fault (length store.entries) (cut 8 rest)
     (reading_of_digest (take (length text - length rest) text) store)
 
-abbrev pub reading_unless_entry_fault : Option StoreFault → StoreReading → StoreReading
+abbrev pub reading_unless_entry_fault : Option StoreReadFault → StoreReading → StoreReading
 reading_unless_entry_fault None reading = reading
 reading_unless_entry_fault (Some f) reading = Err f
 
@@ -139,21 +142,21 @@ reading_of_entries text most next_serial (suc left) held rest =
     reading_after_entry most next_serial held (λ e more. reading_of_entries text most next_serial left (e ∷ held) more)
     (leading_entry rest)
 
-abbrev pub reading_of_opening_numbers : StoreBounds → List ℕ → List ℕ → List ℕ → List ℕ → StoreReading
-reading_of_opening_numbers bounds text next number rest =
+abbrev pub reading_by_opening_numbers : StoreBounds → List ℕ → List ℕ → List ℕ → List ℕ → StoreReading
+reading_by_opening_numbers bounds text next number rest =
     if is_number next && is_number number
     then if nat_le (number_of number) bounds.entries
     then reading_of_entries text bounds.bytes (number_of next) (number_of number) [] rest
     else Err fault.Entries
     else Err fault.NotAStore
 
-abbrev pub reading_of_first_line : StoreBounds → List ℕ → List ℕ → List ℕ → StoreReading
-reading_of_first_line bounds text line rest =
+abbrev pub reading_by_first_line : StoreBounds → List ℕ → List ℕ → List ℕ → StoreReading
+reading_by_first_line bounds text line rest =
     if bytes_eq line first_line
-    then or_short_file_fault 0 (cut 8 rest)
-    (λ next more. or_short_file_fault 0 (cut 8 more) (reading_of_opening_numbers bounds text next))
+    then reading_or_short_file_fault 0 (cut 8 rest)
+    (λ next more. reading_or_short_file_fault 0 (cut 8 more) (reading_by_opening_numbers bounds text next))
     else if bytes_eq (take 15 line) first_line_words then Err fault.Version
     else Err fault.NotAStore
 
 unfoldable pub read_store : StoreBounds → List ℕ → StoreReading
-read_store bounds text = or_short_file_fault 0 (cut 17 text) (reading_of_first_line bounds text)
+read_store bounds text = reading_or_short_file_fault 0 (cut 17 text) (reading_by_first_line bounds text)

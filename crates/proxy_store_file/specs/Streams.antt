@@ -11,8 +11,8 @@ use Rattle.std.specs.Hash.DefaultHasher.{initial, write}
 use Rattle.std.specs.Io.KnownBytes.{Consumes, IsAtEnd}
 use Rattle.std.specs.declared.hash.DefaultHasher.{DefaultHasher}
 use Rattle.hx_store.specs.Weights.{StoreBounds}
-use Rattle.proxy_store_file.specs.declared.store_faults.StoreFault.{StoreFault}
-use Rattle.proxy_store_file.specs.declared.store_faults.StoreFault.TheVariants as fault
+use Rattle.proxy_store_file.specs.declared.store_faults.StoreReadFault.{StoreReadFault}
+use Rattle.proxy_store_file.specs.declared.store_faults.StoreReadFault.TheVariants as fault
 use Rattle.proxy_store_file.specs.declared.pieces.ReadStop.{ReadStop}
 use Rattle.proxy_store_file.specs.declared.pieces.ReadStop.TheVariants as stop
 use Rattle.proxy_store_file.specs.Texts.{number_of, is_number}
@@ -77,13 +77,13 @@ pub record ReadingStopsEarly (read : List ℕ → StoreReading) (old new : Optio
   pub reads : IsSo (read bytes)
 
 -- so far it is too short, or whole if nothing follows
-abbrev pub ReadingIsUnfinished : StoreReading → Type 0
-ReadingIsUnfinished (Ok store) = Unit {0}
-ReadingIsUnfinished (Err f) = (n : ℕ) × (f ≡ fault.Short n)
+abbrev pub ReadingIsWholeOrTooShort : StoreReading → Type 0
+ReadingIsWholeOrTooShort (Ok store) = Unit {0}
+ReadingIsWholeOrTooShort (Err f) = (n : ℕ) × (f ≡ fault.Short n)
 
 -- why nothing was read
-abbrev pub ReaderIsRefusedFor : (List ℕ → StoreReading) → Option (List ℕ) → Option (List ℕ) → StoreFault → Type 0
-ReaderIsRefusedFor read old new fault.Read = ReadingStopsEarly read old new ReadingIsUnfinished
+abbrev pub ReaderIsRefusedFor : (List ℕ → StoreReading) → Option (List ℕ) → Option (List ℕ) → StoreReadFault → Type 0
+ReaderIsRefusedFor read old new fault.Read = ReadingStopsEarly read old new ReadingIsWholeOrTooShort
 ReaderIsRefusedFor read old new fault.OutOfMemory = ReadingStopsEarly read old new (λ reading. Unit {0})
 ReaderIsRefusedFor read old new f = ReaderGaveReading read old new (Err f)
 
@@ -99,14 +99,14 @@ abbrev pub store_contents_of : List Stored → ℕ → StoreContents
 store_contents_of entries next = record { entries = entries; next_serial = next }
 
 -- why a first line isn't that of such a file
-abbrev pub line_fault : List ℕ → Option StoreFault
-line_fault line =
+abbrev pub first_line_fault : List ℕ → Option StoreReadFault
+first_line_fault line =
     if bytes_eq line first_line then None
     else if bytes_eq (take 15 line) first_line_words then Some fault.Version
     else Some fault.NotAStore
 
 -- what the reader's stop means behind so many whole entries
-abbrev pub fault_of_stop : ℕ → ReadStop → StoreFault
+abbrev pub fault_of_stop : ℕ → ReadStop → StoreReadFault
 fault_of_stop n stop.Ended = fault.Short n
 fault_of_stop n stop.Failed = fault.Read
 fault_of_stop n stop.OutOfMemory = fault.OutOfMemory
@@ -123,7 +123,7 @@ NextEntryIsRead most next held more_held old new before after = (front : List �
     (λ rest. reading_of_entries (front ++ rest) most next (suc left) held rest)
     (λ text more. reading_of_entries (front ++ text) most next left more_held more) old new before after
 
-abbrev pub EntryIsRefused : Option ℕ → ℕ → List Stored → Option (List ℕ) → Option (List ℕ) → StoreFault → Type 0
+abbrev pub EntryIsRefused : Option ℕ → ℕ → List Stored → Option (List ℕ) → Option (List ℕ) → StoreReadFault → Type 0
 EntryIsRefused most next held old new f = (front : List ℕ) (left : ℕ) → ReaderIsRefusedFor
     (λ rest. reading_of_entries (front ++ rest) most next (suc left) held rest) old new f
 
@@ -133,6 +133,6 @@ FileEndIsRead held old new before = (front : List ℕ) (next : ℕ) → before �
     → ReaderGaveReading (λ rest. reading_of_end (front
     ++ rest) (store_contents_of held next) rest) old new (Ok (store_contents_of held next))
 
-abbrev pub FileEndIsRefused : List Stored → Option (List ℕ) → Option (List ℕ) → DefaultHasher → StoreFault → Type 0
+abbrev pub FileEndIsRefused : List Stored → Option (List ℕ) → Option (List ℕ) → DefaultHasher → StoreReadFault → Type 0
 FileEndIsRefused held old new before f = (front : List ℕ) (next : ℕ) → before ≡ write initial front
     → ReaderIsRefusedFor (λ rest. reading_of_end (front ++ rest) (store_contents_of held next) rest) old new f

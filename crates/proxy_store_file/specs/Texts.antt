@@ -32,11 +32,11 @@ abbrev pub after : {A B : Type 0} → Option (A × List ℕ) → (A → List ℕ
 after None read = None
 after (Some p) read = read p.0 p.1
 
-abbrev pub number_of_eight : List ℕ → List ℕ → Option (ℕ × List ℕ)
-number_of_eight eight rest = if is_number eight then Some (number_of eight, rest) else None
+abbrev pub number_of_eight_bytes_and_rest : List ℕ → List ℕ → Option (ℕ × List ℕ)
+number_of_eight_bytes_and_rest eight rest = if is_number eight then Some (number_of eight, rest) else None
 
 abbrev pub leading_number : List ℕ → Option (ℕ × List ℕ)
-leading_number bytes = after (cut 8 bytes) number_of_eight
+leading_number bytes = after (cut 8 bytes) number_of_eight_bytes_and_rest
 
 abbrev pub leading_text : List ℕ → Option (List ℕ × List ℕ)
 leading_text bytes = after (leading_number bytes) cut

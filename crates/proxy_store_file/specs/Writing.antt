@@ -13,7 +13,7 @@ use Rattle.proxy_store_file.specs.declared.store_faults.EntryPart.TheVariants as
 use Rattle.proxy_store_file.specs.declared.store_faults.WriteFault.{WriteFault}
 use Rattle.proxy_store_file.specs.declared.store_faults.WriteFault.TheVariants as fault
 use Rattle.proxy_store_file.specs.Heads.{head_spelling, head_of_entry}
-use Rattle.proxy_store_file.specs.Parts.{most_head_bytes, first_invalid_part}
+use Rattle.proxy_store_file.specs.Parts.{most_entry_head_bytes, first_invalid_part}
 
 -- the writer took these bytes, and the hasher was fed them
 pub record WriterTookBytes (old new : Option (List ℕ)) (before after : DefaultHasher) (bytes : List ℕ) : Type 0 where
@@ -30,7 +30,8 @@ pub record WriterTookAFront (old new : Option (List ℕ)) (bytes : List ℕ) : T
 -- the first part of an entry that isn't what it must be, its head as a whole before the others
 abbrev pub first_unwritable_part : Stored → Option EntryPart
 first_unwritable_part e =
-    if nat_le (length (head_spelling (head_of_entry e))) most_head_bytes then first_invalid_part e else Some part.Head
+    if nat_le (length (head_spelling (head_of_entry e))) most_entry_head_bytes then first_invalid_part e else Some
+    part.Head
 
 abbrev pub write_fault_of_part : ℕ → Option EntryPart → Option WriteFault → Option WriteFault
 write_fault_of_part n None other = other
@@ -52,13 +53,13 @@ store_write_fault next (e ∷ es) =
     first_fault_of_two (store_write_fault next es) (entry_write_fault (length es + 1) next e)
 
 -- a fault of what is told is the first; of a writer and of memory nothing is said
-abbrev pub IsFirstFaultIfOfContent : Option WriteFault → WriteFault → Type 0
-IsFirstFaultIfOfContent first fault.Write = Unit {0}
-IsFirstFaultIfOfContent first fault.OutOfMemory = Unit {0}
-IsFirstFaultIfOfContent first f = first ≡ Some f
+abbrev pub IsFirstFaultUnlessWriteOrMemory : Option WriteFault → WriteFault → Type 0
+IsFirstFaultUnlessWriteOrMemory first fault.Write = Unit {0}
+IsFirstFaultUnlessWriteOrMemory first fault.OutOfMemory = Unit {0}
+IsFirstFaultUnlessWriteOrMemory first f = first ≡ Some f
 
 -- a front was written, and why no more
 pub record StoreWasNotWritten (old new : Option (List ℕ)) (bytes : List ℕ) (first : Option WriteFault)
     (f : WriteFault) : Type 0 where
   pub took : WriterTookAFront old new bytes
-  pub why : IsFirstFaultIfOfContent first f
+  pub why : IsFirstFaultUnlessWriteOrMemory first f

@@ -1,7 +1,7 @@
 //! Whether an entry is one that can have been stored (`specs/Parts.antt`).
 ghost use Rattle.std.specs.Prelude.{◌≡◌, ◌==◌, slice_index};
 ghost use Rattle.std.specs.List.{list_all};
-ghost use Rattle.proxy_store_file.specs.Parts.{first_invalid_part, is_final_status, is_valid_stored_key};
+ghost use Rattle.proxy_store_file.specs.Parts.{first_invalid_part, is_three_digit_final_status, is_valid_stored_key};
 ghost use Rattle.proxy_store_file.specs.Parts.{is_valid_moment};
 ghost use Rattle.proxy_store_file.specs.Parts.{are_valid_times, is_valid_moment_if_any};
 ghost use Rattle.proxy_store_file.specs.Parts.{is_valid_value_byte, are_valid_value_bytes, is_valid_field_name};
@@ -13,13 +13,13 @@ use crate::limits::{MOST_HEAD_BYTES, MOST_PATH_BYTES};
 use crate::store_faults::EntryPart;
 use hx_age::Times;
 use hx_directives::MOST_SECONDS;
-use hx_fields::{Bytes, END_OF_TIME, Field, is_token, trim_blanks};
+use hx_fields::{Bytes, Field, START_OF_YEAR_10000, is_token, trim_blanks};
 use hx_store::Entry;
 use hx_target::{Key, is_host};
 use hx_vary::NominatedValue;
 
-fn is_final_status(status: u16) -> bool
-    ensures { result ≡ is_final_status status }
+fn is_three_digit_final_status(status: u16) -> bool
+    ensures { result ≡ is_three_digit_final_status status }
 {
     200 <= status && status <= 999
 }
@@ -52,7 +52,7 @@ fn is_valid_stored_key(key: &Key) -> bool
 fn is_valid_moment(seconds: u64) -> bool
     ensures { result ≡ is_valid_moment seconds }
 {
-    seconds < END_OF_TIME
+    seconds < START_OF_YEAR_10000
 }
 
 fn is_valid_moment_if_any(seconds: Option<u64>) -> bool
@@ -149,7 +149,7 @@ fn are_valid_field_lines(lines: &[Field]) -> bool
 pub(crate) fn first_invalid_part(entry: &Entry) -> Option<EntryPart>
     ensures { result ≡ first_invalid_part entry.now }
 {
-    if !is_final_status(entry.status) {
+    if !is_three_digit_final_status(entry.status) {
         return Some(EntryPart::Status);
     }
     if !are_valid_times(entry.times) {

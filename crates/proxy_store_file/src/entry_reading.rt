@@ -41,7 +41,7 @@ pub(crate) fn read_entry<R: Read>(
         Ok(content) => content,
         Err(stop) => return Err(stop),
     };
-    match head.with_content(alloc, content) {
+    match head.into_entry_with_content(alloc, content) {
         Ok(entry) => Ok(Some(entry)),
         Err(_) => Err(ReadStop::OutOfMemory),
     }

@@ -1,10 +1,11 @@
 //! The head of an entry, read from its bytes (`specs/Heads.antt`).
 ghost use Rattle.std.specs.Prelude.{◌≡◌, ◌∷◌, [], IfOk, IfErr, MatchOption, None, Some};
 ghost use Rattle.proxy_store_file.specs.Heads.{leading_times, leading_key, leading_value, leading_nominated_value};
-ghost use Rattle.proxy_store_file.specs.Heads.{leading_nominated_values, leading_line, leading_lines, head_spelled_in};
+ghost use Rattle.proxy_store_file.specs.Heads.{leading_list_of_nominated_values, leading_field_line};
+ghost use Rattle.proxy_store_file.specs.Heads.{leading_field_lines, head_spelled_in};
 ghost use Rattle.proxy_store_file.specs.Heads.{leading_nominated_values_after};
-ghost use Rattle.proxy_store_file.specs.Heads.{leading_lines_after, stored_times_with_purge_if_any};
-ghost use Rattle.proxy_store_file.specs.HeadStops.{HeadStopMatchesReading, leading_value_as_read};
+ghost use Rattle.proxy_store_file.specs.Heads.{leading_field_lines_after, stored_times_with_purge_if_any};
+ghost use Rattle.proxy_store_file.specs.HeadStops.{HeadReadFailureMatchesReading, model_of_leading_value};
 
 use crate::heads::Head;
 use crate::texts::{cut, leading_number, leading_number_below, leading_text};
@@ -62,7 +63,7 @@ fn leading_times(bytes: &[u8]) -> Option<(Times, &[u8])>
 
 fn leading_key(alloc: Global, bytes: &[u8]) -> Result<(Key, &[u8]), HeadStop>
     ensures ok { IfOk result (λ r. leading_key bytes.now ≡ Some (r.0, r.1.now)) }
-    ensures stop { IfErr result (λ stop. HeadStopMatchesReading stop (leading_key bytes.now)) }
+    ensures stop { IfErr result (λ stop. HeadReadFailureMatchesReading stop (leading_key bytes.now)) }
 {
     let Some((port, rest)) = leading_number_below(65_536, bytes) else {
         return Err(HeadStop::Shapeless);
@@ -92,7 +93,7 @@ enum LeadingValue<'a> {
 }
 
 fn leading_value(bytes: &[u8]) -> LeadingValue<'_>
-    ensures { leading_value_as_read result ≡ leading_value bytes.now }
+    ensures { model_of_leading_value result ≡ leading_value bytes.now }
 {
     match leading_number(bytes) {
         None => LeadingValue::Cut,
@@ -106,7 +107,7 @@ fn leading_value(bytes: &[u8]) -> LeadingValue<'_>
 
 fn leading_nominated_value(alloc: Global, bytes: &[u8]) -> Result<(NominatedValue, &[u8]), HeadStop>
     ensures ok { IfOk result (λ r. leading_nominated_value bytes.now ≡ Some (r.0, r.1.now)) }
-    ensures stop { IfErr result (λ stop. HeadStopMatchesReading stop (leading_nominated_value bytes.now)) }
+    ensures stop { IfErr result (λ stop. HeadReadFailureMatchesReading stop (leading_nominated_value bytes.now)) }
 {
     let Some((name, rest)) = leading_text(bytes) else {
         return Err(HeadStop::Shapeless);
@@ -125,9 +126,13 @@ fn leading_nominated_value(alloc: Global, bytes: &[u8]) -> Result<(NominatedValu
     }
 }
 
-fn leading_nominated_values(alloc: Global, bytes: &[u8]) -> Result<(Nominated, &[u8]), HeadStop>
-    ensures ok { IfOk result (λ r. leading_nominated_values bytes.now ≡ Some (r.0, r.1.now)) }
-    ensures stop { IfErr result (λ stop. HeadStopMatchesReading stop (leading_nominated_values bytes.now)) }
+fn leading_list_of_nominated_values(
+    alloc: Global,
+    bytes: &[u8],
+) -> Result<(Nominated, &[u8]), HeadStop>
+    ensures ok { IfOk result (λ r. leading_list_of_nominated_values bytes.now ≡ Some (r.0, r.1.now)) }
+    ensures stop { IfErr result (λ stop. HeadReadFailureMatchesReading stop
+        (leading_list_of_nominated_values bytes.now)) }
 {
     let Some((n, front)) = leading_number(bytes) else {
         return Err(HeadStop::Shapeless);
@@ -148,9 +153,9 @@ fn leading_nominated_values(alloc: Global, bytes: &[u8]) -> Result<(Nominated, &
     Ok((Nominated::from_vec(values), rest))
 }
 
-fn leading_line(alloc: Global, bytes: &[u8]) -> Result<(Field, &[u8]), HeadStop>
-    ensures ok { IfOk result (λ r. leading_line bytes.now ≡ Some (r.0, r.1.now)) }
-    ensures stop { IfErr result (λ stop. HeadStopMatchesReading stop (leading_line bytes.now)) }
+fn leading_field_line(alloc: Global, bytes: &[u8]) -> Result<(Field, &[u8]), HeadStop>
+    ensures ok { IfOk result (λ r. leading_field_line bytes.now ≡ Some (r.0, r.1.now)) }
+    ensures stop { IfErr result (λ stop. HeadReadFailureMatchesReading stop (leading_field_line bytes.now)) }
 {
     let Some((name, rest)) = leading_text(bytes) else {
         return Err(HeadStop::Shapeless);
@@ -161,9 +166,9 @@ fn leading_line(alloc: Global, bytes: &[u8]) -> Result<(Field, &[u8]), HeadStop>
     Ok((Field::copy_of(alloc, name, value)?, rest))
 }
 
-fn leading_lines(alloc: Global, bytes: &[u8]) -> Result<(Fields, &[u8]), HeadStop>
-    ensures ok { IfOk result (λ r. leading_lines bytes.now ≡ Some (r.0, r.1.now)) }
-    ensures stop { IfErr result (λ stop. HeadStopMatchesReading stop (leading_lines bytes.now)) }
+fn leading_field_lines(alloc: Global, bytes: &[u8]) -> Result<(Fields, &[u8]), HeadStop>
+    ensures ok { IfOk result (λ r. leading_field_lines bytes.now ≡ Some (r.0, r.1.now)) }
+    ensures stop { IfErr result (λ stop. HeadReadFailureMatchesReading stop (leading_field_lines bytes.now)) }
 {
     let Some((n, front)) = leading_number(bytes) else {
         return Err(HeadStop::Shapeless);
@@ -171,7 +176,7 @@ fn leading_lines(alloc: Global, bytes: &[u8]) -> Result<(Fields, &[u8]), HeadSto
     let mut lines = Fields::new(alloc);
     let mut rest = front;
     for _i in 0..n {
-        match leading_line(alloc, rest) {
+        match leading_field_line(alloc, rest) {
             Ok((line, more)) => {
                 lines.push_line(line)?;
                 rest = more;
@@ -202,7 +207,7 @@ fn stored_times_with_purge_if_any(times: Times, rest: &[u8]) -> Option<Times>
 #[tactic(auto, unfolding(crate::specs::Heads::head_spelled_in))]
 pub(crate) fn head_spelled_in(alloc: Global, bytes: &[u8]) -> Result<Head, HeadStop>
     ensures ok { IfOk result (λ head. head_spelled_in bytes.now ≡ Some head) }
-    ensures stop { IfErr result (λ stop. HeadStopMatchesReading stop (head_spelled_in bytes.now)) }
+    ensures stop { IfErr result (λ stop. HeadReadFailureMatchesReading stop (head_spelled_in bytes.now)) }
 {
     let Some((serial, rest)) = leading_number(bytes) else {
         return Err(HeadStop::Shapeless);
@@ -220,11 +225,11 @@ pub(crate) fn head_spelled_in(alloc: Global, bytes: &[u8]) -> Result<Head, HeadS
         Ok(found) => found,
         Err(stop) => return Err(stop),
     };
-    let (nominated, rest) = match leading_nominated_values(alloc, rest) {
+    let (nominated, rest) = match leading_list_of_nominated_values(alloc, rest) {
         Ok(found) => found,
         Err(stop) => return Err(stop),
     };
-    let (fields, rest) = match leading_lines(alloc, rest) {
+    let (fields, rest) = match leading_field_lines(alloc, rest) {
         Ok(found) => found,
         Err(stop) => return Err(stop),
     };

@@ -5,7 +5,7 @@ ghost use Rattle.proxy_store_file.specs.Heads.{times_spelling, key_spelling, nom
 ghost use Rattle.proxy_store_file.specs.Heads.{nominated_value_spelling};
 ghost use Rattle.proxy_store_file.specs.Heads.{line_spelling};
 ghost use Rattle.proxy_store_file.specs.Heads.{nominated_spelling, lines_spelling, head_spelling, head_of_entry};
-ghost use Rattle.proxy_store_file.specs.Heads.{numbers_spelling, purge_spelling};
+ghost use Rattle.proxy_store_file.specs.Heads.{head_numbers_spelling, purge_spelling};
 
 use crate::texts::{push_number, push_text};
 use hx_age::Times;
@@ -102,7 +102,7 @@ fn push_purge(out: &mut Vec<u8>, expired: Option<u64>) -> Result<(), AllocError>
 
 /// The numbers of an entry that have a place of their own.
 fn push_numbers(out: &mut Vec<u8>, entry: &Entry) -> Result<(), AllocError>
-    ensures { OnOk result (out.new.items ≡ out.old.items ++ numbers_spelling (head_of_entry entry.now)) }
+    ensures { OnOk result (out.new.items ≡ out.old.items ++ head_numbers_spelling (head_of_entry entry.now)) }
 {
     push_number(out, entry.serial)?;
     push_number(out, entry.status as u64)?;

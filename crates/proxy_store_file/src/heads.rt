@@ -41,7 +41,11 @@ impl Head {
     ghost use Rattle.proxy_store_file.specs.Heads.{stored_with_content};
 
     /// The entry of this head and a content. Fails only where memory runs out.
-    pub(crate) fn with_content(self, alloc: Global, content: Vec<u8>) -> Result<Entry, AllocError>
+    pub(crate) fn into_entry_with_content(
+        self,
+        alloc: Global,
+        content: Vec<u8>,
+    ) -> Result<Entry, AllocError>
         ensures { IfOk result (λ entry. entry ≡ stored_with_content self content.items) }
     {
         let directives = Directives::of(alloc, &self.fields)?;

@@ -6,13 +6,13 @@ ghost use Rattle.hx_age.specs.declared.moments.Times.{Times};
 ghost use Rattle.proxy_store_file.specs.Texts.{number_spelling, text_spelling, leading_number, leading_text};
 ghost use Rattle.proxy_store_file.specs.Heads.{times_spelling, leading_times, key_spelling, leading_key};
 ghost use Rattle.proxy_store_file.specs.Heads.{line_spelling, purge_spelling, nominated_text_spelling};
-ghost use Rattle.proxy_store_file.specs.Heads.{leading_line, nominated_value_spelling, leading_nominated_value};
+ghost use Rattle.proxy_store_file.specs.Heads.{leading_field_line, nominated_value_spelling, leading_nominated_value};
 ghost use Rattle.proxy_store_file.specs.Heads.{head_spelled_in, head_spelling};
 ghost use Rattle.hx_store.specs.Weights.{StoreBounds};
 ghost use Rattle.proxy_store_file.specs.Fits.{StoreCanBeWritten, StoreContentsAreValid};
 ghost use Rattle.proxy_store_file.specs.Stores.{StoreContents, read_store, store_spelling, body_spelling};
 ghost use Rattle.proxy_store_file.specs.Stores.{entries_spelling, entry_spelling};
-ghost use Rattle.proxy_store_file.specs.declared.store_faults.StoreFault.TheVariants as StoreFault;
+ghost use Rattle.proxy_store_file.specs.declared.store_faults.StoreReadFault.TheVariants as StoreReadFault;
 ghost use Rattle.hx_store.specs.Stored.{Stored};
 ghost use Rattle.hx_vary.specs.declared.nominated_values.NominatedValue.{NominatedValue};
 ghost use Rattle.proxy_store_file.specs.declared.heads.Head.{Head};
@@ -35,7 +35,7 @@ pub fn head_parts_are_spelled_as_read()
         → bytes ≡ times_spelling times ++ more }
     ensures key { (bytes more : List ℕ) (key : Key) → leading_key bytes ≡ Some (key, more)
         → bytes ≡ key_spelling key ++ more }
-    ensures line { (bytes more : List ℕ) (line : Field) → leading_line bytes ≡ Some (line, more)
+    ensures line { (bytes more : List ℕ) (line : Field) → leading_field_line bytes ≡ Some (line, more)
         → bytes ≡ line_spelling line ++ more }
     ensures kept { (bytes more : List ℕ) (kept : NominatedValue) → leading_nominated_value bytes ≡ Some (kept, more)
         → bytes ≡ nominated_value_spelling kept ++ more }
@@ -81,8 +81,8 @@ pub fn worked_bytes_are_spelled()
 /// Worked texts that are no store: too short, of another version, something else.
 #[tactic(auto, unfolding(crate::specs::Stores::read_store))]
 pub fn texts_that_are_no_store_are_refused()
-    ensures short { (bounds : StoreBounds) → read_store bounds (codes "revcache store 1") ≡ Err (StoreFault.Short 0) }
+    ensures short { (bounds : StoreBounds) → read_store bounds (codes "revcache store 1") ≡ Err (StoreReadFault.Short 0) }
     ensures version { (bounds : StoreBounds) → read_store bounds (codes "revcache store 2" ++ 10 ∷ [])
-        ≡ Err StoreFault.Version }
-    ensures other { (bounds : StoreBounds) → read_store bounds (codes "version = 4, a table") ≡ Err StoreFault.NotAStore }
+        ≡ Err StoreReadFault.Version }
+    ensures other { (bounds : StoreBounds) → read_store bounds (codes "version = 4, a table") ≡ Err StoreReadFault.NotAStore }
 {}

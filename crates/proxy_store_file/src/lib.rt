@@ -20,6 +20,6 @@ mod store_reading;
 mod store_writing;
 mod texts;
 
-pub use store_faults::{EntryPart, StoreFault, WriteFault};
+pub use store_faults::{EntryPart, StoreReadFault, WriteFault};
 pub use store_reading::read_store;
-pub use store_writing::write_store;
+pub use store_writing::write_and_empty_store;

@@ -2,10 +2,10 @@
 ghost use Rattle.std.specs.Prelude.{◌≡◌, ◌≤◌, ℕ, [], Option, IfOk, IfErr, MatchOption, length};
 ghost use Rattle.proxy_store_file.specs.Stores.{reading_of_entries, read_store};
 ghost use Rattle.proxy_store_file.specs.Streams.{FileFrontIsRead, ReaderIsRefusedFor, bounds_of, fault_of_stop};
-ghost use Rattle.proxy_store_file.specs.Streams.{line_fault};
+ghost use Rattle.proxy_store_file.specs.Streams.{first_line_fault};
 
 use crate::pieces::{ReadStop, read_bytes, read_number};
-use crate::store_faults::StoreFault;
+use crate::store_faults::StoreReadFault;
 use std::alloc::Global;
 use std::hash::DefaultHasher;
 use std::io::Read;
@@ -17,27 +17,27 @@ pub(crate) const FIRST_LINE: &[u8] = b"revcache store 1\n";
 const FIRST_WORDS: &[u8] = b"revcache store ";
 
 /// What the reader's stop means behind so many whole entries.
-pub(crate) fn fault_of_stop(entries: u64, stop: ReadStop) -> StoreFault
+pub(crate) fn fault_of_stop(entries: u64, stop: ReadStop) -> StoreReadFault
     ensures { result ≡ fault_of_stop entries stop }
 {
     match stop {
-        ReadStop::Ended => StoreFault::Short(entries),
-        ReadStop::Failed => StoreFault::Read,
-        ReadStop::OutOfMemory => StoreFault::OutOfMemory,
+        ReadStop::Ended => StoreReadFault::Short(entries),
+        ReadStop::Failed => StoreReadFault::Read,
+        ReadStop::OutOfMemory => StoreReadFault::OutOfMemory,
     }
 }
 
 /// Why a first line isn't that of such a file.
-fn line_fault(line: &[u8]) -> Option<StoreFault>
+fn first_line_fault(line: &[u8]) -> Option<StoreReadFault>
     requires { length line.now ≡ 17 }
-    ensures { result ≡ line_fault line.now }
+    ensures { result ≡ first_line_fault line.now }
 {
     if line == FIRST_LINE {
         None
     } else if &line[..FIRST_WORDS.len()] == FIRST_WORDS {
-        Some(StoreFault::Version)
+        Some(StoreReadFault::Version)
     } else {
-        Some(StoreFault::NotAStore)
+        Some(StoreReadFault::NotAStore)
     }
 }
 
@@ -47,7 +47,7 @@ pub(crate) fn read_opening<R: Read>(
     capacity: usize,
     reader: &mut R,
     hasher: &mut DefaultHasher,
-) -> Result<(u64, u64), StoreFault>
+) -> Result<(u64, u64), StoreReadFault>
     ensures ok { IfOk result (λ r. (most : Option ℕ) → FileFrontIsRead (read_store (bounds_of capacity most))
         (λ text more. reading_of_entries text most r.0 r.1 [] more) (R.remaining reader.old) (R.remaining reader.new)
         hasher.old hasher.new) }
@@ -59,7 +59,7 @@ pub(crate) fn read_opening<R: Read>(
         Ok(line) => line,
         Err(stop) => return Err(fault_of_stop(0, stop)),
     };
-    if let Some(fault) = line_fault(line.as_slice()) {
+    if let Some(fault) = first_line_fault(line.as_slice()) {
         return Err(fault);
     }
     let next = match read_number(alloc, reader, hasher) {
@@ -71,7 +71,7 @@ pub(crate) fn read_opening<R: Read>(
         Err(stop) => return Err(fault_of_stop(0, stop)),
     };
     if number > capacity as u64 {
-        return Err(StoreFault::Entries);
+        return Err(StoreReadFault::Entries);
     }
     Ok((next, number))
 }

@@ -25,7 +25,7 @@ pub enum EntryPart {
 /// Why the file of a store is refused. The fault at the earliest place is answered. Entries are counted from 1, in the
 /// order of the file.
 #[derive(Clone, Copy, Debug, PartialEq, Eq)]
-pub enum StoreFault {
+pub enum StoreReadFault {
     /// It doesn't begin with the first line of such a file.
     NotAStore,
     /// It begins with the first line of another version.

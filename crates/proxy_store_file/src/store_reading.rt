@@ -2,7 +2,7 @@
 ghost use Rattle.std.specs.Prelude.{◌≡◌, ◌<◌, ◌≤◌, ◌+◌, ◌-◌, ◌^◌, [], List, length, Ok, IfOk, IfErr, IfSome, OnOk};
 ghost use Rattle.std.specs.Prelude.{OnErr};
 ghost use Rattle.hx_store.specs.Stored.{Stored};
-ghost use Rattle.proxy_store_file.specs.Stores.{entry_fault, weight_exceeds_bound, read_store};
+ghost use Rattle.proxy_store_file.specs.Stores.{entry_fault, store_weight_exceeds_bound, read_store};
 ghost use Rattle.proxy_store_file.specs.Streams.{FileEndIsRead, FileEndIsRefused, EntryIsRefused, NextEntryIsRead};
 ghost use Rattle.proxy_store_file.specs.Streams.{ReaderGaveReading};
 ghost use Rattle.proxy_store_file.specs.Streams.{ReaderIsRefusedFor, bounds_of, store_contents_of};
@@ -11,15 +11,15 @@ use crate::entry_parts::first_invalid_part;
 use crate::entry_reading::read_entry;
 use crate::opening::{fault_of_stop, read_opening};
 use crate::pieces::{ReadStop, read_bytes, read_number};
-use crate::store_faults::{EntryPart, StoreFault};
+use crate::store_faults::{EntryPart, StoreReadFault};
 use hx_store::{Entry, Shelf, evict_to_weight};
 use std::alloc::Global;
 use std::hash::{DefaultHasher, Hasher};
 use std::io::Read;
 
-fn weight_exceeds_bound(most: Option<u64>, held: u64, entry: u64) -> bool
+fn store_weight_exceeds_bound(most: Option<u64>, held: u64, entry: u64) -> bool
     requires { IfSome most (λ most. most < 2 ^ 64 - 1) }
-    ensures { result ≡ weight_exceeds_bound most (entry + held) }
+    ensures { result ≡ store_weight_exceeds_bound most (entry + held) }
 {
     match most {
         None => false,
@@ -34,18 +34,18 @@ fn entry_fault<S: Shelf>(
     next: u64,
     number: u64,
     entry: &Entry,
-) -> Option<StoreFault>
+) -> Option<StoreReadFault>
     requires { IfSome most (λ most. most < 2 ^ 64 - 1) }
     ensures { result ≡ entry_fault number most next (S.entries shelf.now) entry.now }
 {
     if let Some(part) = first_invalid_part(entry) {
-        return Some(StoreFault::Entry(number, part));
+        return Some(StoreReadFault::Entry(number, part));
     }
     if shelf.contains(entry.serial) || next <= entry.serial {
-        return Some(StoreFault::Serial(number));
+        return Some(StoreReadFault::Serial(number));
     }
-    if weight_exceeds_bound(most, shelf.weight(), entry.weight()) {
-        return Some(StoreFault::Weight(number));
+    if store_weight_exceeds_bound(most, shelf.weight(), entry.weight()) {
+        return Some(StoreReadFault::Weight(number));
     }
     None
 }
@@ -59,7 +59,7 @@ fn take_entry<S: Shelf, R: Read>(
     shelf: &mut S,
     reader: &mut R,
     hasher: &mut DefaultHasher,
-) -> Result<(), StoreFault>
+) -> Result<(), StoreReadFault>
     requires bounded { IfSome most (λ most. most < 2 ^ 64 - 1) }
     requires number { number ≡ length (S.entries shelf.old) + 1 }
     requires room { number ≤ S.limit shelf.old }
@@ -72,7 +72,7 @@ fn take_entry<S: Shelf, R: Read>(
 {
     let entry = match read_entry(alloc, reader, hasher) {
         Ok(Some(entry)) => entry,
-        Ok(None) => return Err(StoreFault::Entry(number, EntryPart::Head)),
+        Ok(None) => return Err(StoreReadFault::Entry(number, EntryPart::Head)),
         Err(stop) => return Err(fault_of_stop(number - 1, stop)),
     };
     if let Some(fault) = entry_fault(shelf, most, next, number, &entry) {
@@ -80,7 +80,7 @@ fn take_entry<S: Shelf, R: Read>(
     }
     match shelf.put(entry, &[]) {
         Ok(_) => Ok(()),
-        Err(_) => Err(StoreFault::OutOfMemory),
+        Err(_) => Err(StoreReadFault::OutOfMemory),
     }
 }
 
@@ -90,7 +90,7 @@ fn read_end<R: Read>(
     held: u64,
     reader: &mut R,
     hasher: &mut DefaultHasher,
-) -> Result<(), StoreFault>
+) -> Result<(), StoreReadFault>
     ensures ok { OnOk result ((entries : List Stored) → length entries ≡ held
         → FileEndIsRead entries (R.remaining reader.old) (R.remaining reader.new) hasher.old) }
     ensures fault { IfErr result (λ fault. (entries : List Stored) → length entries ≡ held
@@ -102,13 +102,13 @@ fn read_end<R: Read>(
         Err(stop) => return Err(fault_of_stop(held, stop)),
     };
     if written != digest {
-        return Err(StoreFault::Digest);
+        return Err(StoreReadFault::Digest);
     }
     match read_bytes(alloc, reader, hasher, 1) {
-        Ok(_) => Err(StoreFault::Long),
+        Ok(_) => Err(StoreReadFault::Long),
         Err(ReadStop::Ended) => Ok(()),
-        Err(ReadStop::Failed) => Err(StoreFault::Read),
-        Err(ReadStop::OutOfMemory) => Err(StoreFault::OutOfMemory),
+        Err(ReadStop::Failed) => Err(StoreReadFault::Read),
+        Err(ReadStop::OutOfMemory) => Err(StoreReadFault::OutOfMemory),
     }
 }
 
@@ -118,7 +118,7 @@ fn fill<S: Shelf, R: Read>(
     most: Option<u64>,
     shelf: &mut S,
     reader: &mut R,
-) -> Result<u64, StoreFault>
+) -> Result<u64, StoreReadFault>
     requires bounded { IfSome most (λ most. most < 2 ^ 64 - 1) }
     requires empty { S.entries shelf.old ≡ [] }
     ensures ok { IfOk result (λ next. ReaderGaveReading (read_store (bounds_of (S.limit shelf.old) most))
@@ -155,7 +155,7 @@ pub fn read_store<S: Shelf, R: Read>(
     most: Option<u64>,
     shelf: &mut S,
     reader: &mut R,
-) -> Result<u64, StoreFault>
+) -> Result<u64, StoreReadFault>
     requires bounded { IfSome most (λ most. most < 2 ^ 64 - 1) }
     requires empty { S.entries shelf.old ≡ [] }
     ensures ok { IfOk result (λ next. ReaderGaveReading (read_store (bounds_of (S.limit shelf.old) most))

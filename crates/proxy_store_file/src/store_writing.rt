@@ -97,7 +97,7 @@ fn write_entries<S: Shelf, W: Write>(
 {
     let mut number = 0u64;
     let _entries = shelf.len();
-    while let Some(entry) = shelf.shed(0) {
+    while let Some(entry) = shelf.evict_last_beyond_weight(0) {
         number += 1;
         match write_entry(alloc, number, next, &entry, writer, hasher) {
             Ok(()) => {}
@@ -112,7 +112,7 @@ fn write_entries<S: Shelf, W: Write>(
 ///
 /// Where it answers `Ok` the whole was handed to the writer, and the shelf is empty; else a front of it, and the shelf
 /// has a front of what it had. The writer isn't flushed.
-pub fn write_store<S: Shelf, W: Write>(
+pub fn write_and_empty_store<S: Shelf, W: Write>(
     alloc: Global,
     next: u64,
     shelf: &mut S,

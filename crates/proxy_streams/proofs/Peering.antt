@@ -1,11 +1,11 @@
 -- What was taken of bytes and what is left of them are those bytes, in order.
 use Rattle.std.proofs.Common.{◌≡◌, ◌-◌, ℕ, List, [], ◌++◌, length, take, drop, Result, Ok, Err, refl, sym, ap, ◌∙◌, OnErr, append-nil, append_assoc, take-append-drop}
 use Rattle.std.proofs.lemmas.List.{take_rest}
-use Rattle.proxy_streams.specs.Peers.{bytes_taken_by_write, BytesAreWrittenOrKept, BytesAreWrittenInPart}
+use Rattle.proxy_streams.specs.Peers.{prefix_taken_by_write, BytesAreWrittenOrKept, AFrontOfBytesIsWritten}
 
 -- a write behind the front of some bytes
 pub part_taken : {E : Type 0} (Took : List ℕ → Type 0) (r : Result ℕ E) (xs : List ℕ) (at : ℕ)
-    → Took (take at xs ++ bytes_taken_by_write r (take (length xs - at) (drop at xs))) → BytesAreWrittenInPart Took xs
+    → Took (take at xs ++ prefix_taken_by_write r (take (length xs - at) (drop at xs))) → AFrontOfBytesIsWritten Took xs
 part_taken Took (Ok n) xs at took = (
   drop n (drop at xs),
   (
@@ -31,7 +31,7 @@ handed_joined First Then Took old kept bytes new join h none k =
     let whole : h.0 ≡ old = sym (append-nil h.0) ∙ ap (λ l. h.0 ++ l) (sym none) ∙ h.2 in
     (h.0 ++ k.0, join h.0 k.0 h.1 k.1, append_assoc h.0 k.0 new ∙ ap (λ l. h.0 ++ l) k.2 ∙ ap (λ l. l ++ bytes) whole)
 
-pub part_behind : (Took : List ℕ → Type 0) (old bytes : List ℕ) → BytesAreWrittenInPart Took old → BytesAreWrittenInPart Took (old ++ bytes)
+pub part_behind : (Took : List ℕ → Type 0) (old bytes : List ℕ) → AFrontOfBytesIsWritten Took old → AFrontOfBytesIsWritten Took (old ++ bytes)
 part_behind Took old bytes h = (h.0 ++ bytes, handed_behind Took old h.0 (h.0 ++ bytes) bytes h.1 refl)
 
 pub on_err : {A E P : Type 0} (r : Result A E) → P → OnErr r P

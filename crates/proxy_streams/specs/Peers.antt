@@ -1,13 +1,13 @@
 -- What passes between a peer and its stream.
 --
--- PeerReadOutcome, read_outcome_of_result, bytes_taken_by_write: what a read gave, the bytes that a write took
+-- PeerReadOutcome, read_outcome_of_result, prefix_taken_by_write: what a read gave, the bytes that a write took
 -- is_transient_error, IsLastingError, is_last_read: whether more may come behind a read
 -- peer_read_outcome: what a peer tells of a read
 -- MoreMayBeLeftToRead: whether more may be left to be read      event_shows_readable, event_shows_an_end: what an event
 -- tells
 -- UnsentBytes: what a contract sees of `Unsent`
 -- BytesAreWrittenOrKept: of bytes that are to be written the stream took the front, and the rest is kept
--- BytesAreWrittenInPart: the stream took the front, and the rest is lost
+-- AFrontOfBytesIsWritten: the stream took the front, and the rest is lost
 use Rattle.std.specs.Prelude.{◌≡◌, ◌==◌, ℕ, Bool, true, false, not, ◌||◌, if◌then◌else◌, List, [], ◌++◌, take, Result}
 use Rattle.std.specs.Prelude.{Ok, Err}
 use Rattle.std.specs.IoError.{error_kind}
@@ -46,9 +46,9 @@ is_last_read (Bytes bytes) = false
 is_last_read Ended = true
 
 -- a write answers how many bytes it took of the front
-abbrev pub bytes_taken_by_write : {E : Type 0} → Result ℕ E → List ℕ → List ℕ
-bytes_taken_by_write (Ok n) bytes = take n bytes
-bytes_taken_by_write (Err e) bytes = []
+abbrev pub prefix_taken_by_write : {E : Type 0} → Result ℕ E → List ℕ → List ℕ
+prefix_taken_by_write (Ok n) bytes = take n bytes
+prefix_taken_by_write (Err e) bytes = []
 
 -- what a peer still has to take, how many bytes are held for it, and how many there is memory for
 pub record UnsentBytes : Type 0 where
@@ -85,5 +85,5 @@ event_shows_readable e = is_readable e || event_shows_an_end e
 abbrev pub BytesAreWrittenOrKept : (List ℕ → Type 0) → List ℕ → List ℕ → Type 0
 BytesAreWrittenOrKept Took all kept = (took : List ℕ) × Took took × (took ++ kept ≡ all)
 
-abbrev pub BytesAreWrittenInPart : (List ℕ → Type 0) → List ℕ → Type 0
-BytesAreWrittenInPart Took all = (rest : List ℕ) × BytesAreWrittenOrKept Took all rest
+abbrev pub AFrontOfBytesIsWritten : (List ℕ → Type 0) → List ℕ → Type 0
+AFrontOfBytesIsWritten Took all = (rest : List ℕ) × BytesAreWrittenOrKept Took all rest

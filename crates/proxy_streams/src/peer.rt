@@ -4,11 +4,11 @@ ghost use Rattle.std.specs.Prelude.{OnErr, IfErr, IfSome, min, ◌+◌, ◌^◌,
 ghost use Rattle.std.specs.IoError.{error_kind};
 ghost use Rattle.proxy_reads.specs.Received.{ReceivedBytesAreAtMostRoom};
 ghost use Rattle.proxy_streams.specs.Silence.{end_is_silent};
-ghost use Rattle.proxy_streams.specs.Peers.{peer_read_outcome, BytesAreWrittenOrKept, BytesAreWrittenInPart};
+ghost use Rattle.proxy_streams.specs.Peers.{peer_read_outcome, BytesAreWrittenOrKept, AFrontOfBytesIsWritten};
 ghost use Rattle.proxy_streams.specs.Peers.{MoreMayBeLeftToRead};
 ghost use Rattle.proxy_streams.specs.Peers.{event_shows_readable, event_shows_an_end, IsLastingError};
 ghost use Rattle.proxy_streams.specs.PeerCalls.{PeerIsWritten, new_peer, ended_after_read, heard_moment_after_read};
-ghost use Rattle.proxy_streams.specs.PeerCalls.{received_after_read};
+ghost use Rattle.proxy_streams.specs.PeerCalls.{received_count_after_read};
 ghost use Rattle.proxy_streams.specs.Resets.{is_broken_connection_error, new_socket};
 
 use crate::socket::{Socket, still_connecting};
@@ -112,7 +112,7 @@ impl Peer<Socket> {
 
     /// The same of a stream to which all was written that ever will be: that it can be written is told only where its
     /// connection isn't made yet, or some of it is unsent. Fails where the system refuses it.
-    pub fn register_written(&mut self, poll: &Poll, token: Token) -> io::Result<()>
+    pub fn register_without_more_writes(&mut self, poll: &Poll, token: Token) -> io::Result<()>
         ensures { self.new ≡ record self.old { stream = self.new.stream } }
     {
         let with_writing = self.connecting || self.has_unsent();
@@ -154,7 +154,7 @@ impl<S: Stream + Drop> Peer<S> {
     }
 
     /// Marks what an event told of reading.
-    pub fn mark_ready(&mut self, event: &Event)
+    pub fn note_socket_event(&mut self, event: &Event)
         ensures { self.new ≡ record self.old {
           readable = self.old.readable || event_shows_readable event.now;
           hung = self.old.hung || event_shows_an_end event.now;
@@ -177,7 +177,7 @@ impl<S: Stream + Drop> Peer<S> {
             → OnOk result (BytesAreWrittenOrKept (λ took. S.Passed self.old.stream took [] self.new.stream)
             (self.old.unsent.bytes ++ bytes.now) self.new.unsent.bytes) }
         ensures in_part { OnErr result
-            (BytesAreWrittenInPart (λ took. S.Passed self.old.stream took [] self.new.stream)
+            (AFrontOfBytesIsWritten (λ took. S.Passed self.old.stream took [] self.new.stream)
             (self.old.unsent.bytes ++ bytes.now)) }
         ensures written { PeerIsWritten S.Passed bytes.now self.old self.new }
         ensures going { OnOk result (self.new.broken ≡ self.old.broken) }
@@ -219,7 +219,7 @@ impl<S: Stream + Drop> Peer<S> {
         ensures handed { OnOk result (BytesAreWrittenOrKept (λ took. S.Passed self.old.stream took [] self.new.stream)
             (self.old.unsent.bytes ++ bytes.now) self.new.unsent.bytes) }
         ensures in_part { OnErr result
-            (BytesAreWrittenInPart (λ took. S.Passed self.old.stream took [] self.new.stream)
+            (AFrontOfBytesIsWritten (λ took. S.Passed self.old.stream took [] self.new.stream)
             (self.old.unsent.bytes ++ bytes.now)) }
         ensures going { OnOk result (self.new.broken ≡ false) }
         ensures readable { self.old.readable ≡ true → self.new.readable ≡ true }
@@ -276,7 +276,7 @@ impl<S: Stream + Drop> Peer<S> {
             (BytesAreWrittenOrKept (λ took. S.Passed self.old.stream took [] self.new.stream) self.old.unsent.bytes
             self.new.unsent.bytes) }
         ensures in_part { OnErr result
-            (BytesAreWrittenInPart (λ took. S.Passed self.old.stream took [] self.new.stream) self.old.unsent.bytes) }
+            (AFrontOfBytesIsWritten (λ took. S.Passed self.old.stream took [] self.new.stream) self.old.unsent.bytes) }
         ensures going { OnOk result (self.new.broken ≡ self.old.broken) }
         ensures failed { OnErr result (self.new.broken ≡ true) }
         ensures broken { self.old.broken ≡ true → (self.new.stream ≡ self.old.stream) × (self.new.broken ≡ true) }
@@ -329,7 +329,7 @@ impl<S: Stream + Drop> Peer<S> {
           readable = self.new.readable;
           ended = ended_after_read result self.old.ended;
           heard = heard_moment_after_read result now self.old.heard;
-          received = received_after_read result self.old.received;
+          received = received_count_after_read result self.old.received;
         } }
     {
         if !self.readable {

@@ -1,7 +1,7 @@
 //! What the definitions of peers give on worked cases, computed from them. Times are milliseconds.
 
 ghost use Rattle.std.specs.Prelude.{◌≡◌, ℕ, ◌∷◌, [], true, false, Ok, Err};
-ghost use Rattle.proxy_streams.specs.Peers.{Bytes, Ended, bytes_taken_by_write, read_outcome_of_result};
+ghost use Rattle.proxy_streams.specs.Peers.{Bytes, Ended, prefix_taken_by_write, read_outcome_of_result};
 ghost use Rattle.proxy_streams.specs.Resets.{is_broken_connection_error, is_end_after_reset, is_reset_error};
 ghost use Rattle.proxy_streams.specs.Silence.{end_is_silent};
 ghost use Rattle.std.specs.declared.io.ErrorKind.TheVariants.{ConnectionReset, ConnectionRefused, BrokenPipe, TimedOut};
@@ -9,11 +9,11 @@ ghost use Rattle.std.specs.declared.io.ErrorKind.TheVariants.{ConnectionReset, C
 /// What a read and a write told. A time is over where it was passed, and not where it is just reached; an end of which
 /// something has to be read isn't silent, but where it doesn't take what it has to take first. A connection that was
 /// reset had been made, and one that was refused or took too long hadn't; behind a broken pipe an end was read before.
-pub fn worked_peers()
+pub fn worked_peer_read_outcomes()
     ensures end { read_outcome_of_result (Ok 0) (1 ∷ []) ≡ Ended }
     ensures bytes { read_outcome_of_result (Ok 1) (1 ∷ (2 ∷ [])) ≡ Bytes (1 ∷ []) }
-    ensures written { bytes_taken_by_write {E = ℕ} (Ok 1) (1 ∷ (2 ∷ [])) ≡ 1 ∷ [] }
-    ensures not_written { bytes_taken_by_write {E = ℕ} (Err 0) (1 ∷ (2 ∷ [])) ≡ [] }
+    ensures written { prefix_taken_by_write {E = ℕ} (Ok 1) (1 ∷ (2 ∷ [])) ≡ 1 ∷ [] }
+    ensures not_written { prefix_taken_by_write {E = ℕ} (Err 0) (1 ∷ (2 ∷ [])) ≡ [] }
     ensures waits_to_be_read { end_is_silent true [] 100 0 5 ≡ false }
     ensures takes_not { end_is_silent true (1 ∷ []) 100 0 5 ≡ true }
     ensures silent { end_is_silent false [] 100 94 5 ≡ true }

@@ -1,7 +1,7 @@
 //! A stream that never waits.
 ghost use Rattle.std.specs.Prelude.{◌≡◌, ℕ, List, [], ◌∷◌, ◌++◌, length};
 ghost use Rattle.std.specs.Io.{ReadsAtMost, WritesAtMost};
-ghost use Rattle.proxy_streams.specs.Peers.{PeerReadOutcome, read_outcome_of_result, bytes_taken_by_write};
+ghost use Rattle.proxy_streams.specs.Peers.{PeerReadOutcome, read_outcome_of_result, prefix_taken_by_write};
 
 use std::io;
 
@@ -21,7 +21,7 @@ pub trait Stream {
     /// Writes of the front of the bytes as many as it takes; answers how many.
     fn write(&mut self, bytes: &[u8]) -> io::Result<usize>
         ensures bound { WritesAtMost result bytes.now }
-        ensures passed { Passed self.old (bytes_taken_by_write result bytes.now) [] self.new };
+        ensures passed { Passed self.old (prefix_taken_by_write result bytes.now) [] self.new };
 
     /// Tells the peer that nothing more comes.
     fn shut_down(&mut self) -> io::Result<()>

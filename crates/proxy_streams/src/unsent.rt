@@ -1,7 +1,7 @@
 //! Bytes that a stream is still to take.
 ghost use Rattle.std.specs.Prelude.{◌≡◌, ◌<◌, ◌≤◌, ◌+◌, true, false, ℕ, List, [], ◌++◌, length, take, drop, vec_len};
 ghost use Rattle.std.specs.Prelude.{vec_capacity, IsOk, IfOk, OnOk, OnErr};
-ghost use Rattle.proxy_streams.specs.Peers.{UnsentBytes, BytesAreWrittenInPart};
+ghost use Rattle.proxy_streams.specs.Peers.{UnsentBytes, AFrontOfBytesIsWritten};
 
 use crate::stream::Stream;
 use std::alloc::Global;
@@ -37,7 +37,7 @@ impl Model for Unsent {
 pub(crate) fn write_what_stream_takes<S: Stream>(stream: &mut S, bytes: &[u8]) -> io::Result<usize>
     ensures bound { IfOk result (λ n. n ≤ length bytes.now) }
     ensures took { IfOk result (λ n. S.Passed stream.old (take n bytes.now) [] stream.new) }
-    ensures in_part { OnErr result (BytesAreWrittenInPart (λ took. S.Passed stream.old took [] stream.new) bytes.now) }
+    ensures in_part { OnErr result (AFrontOfBytesIsWritten (λ took. S.Passed stream.old took [] stream.new) bytes.now) }
 {
     let mut at = 0usize;
     for _try in 0..u64::MAX {
@@ -127,7 +127,7 @@ impl Unsent {
         ensures took { IfOk result (λ n. S.Passed stream.old (take n self.old.bytes) [] stream.new) }
         ensures kept { IfOk result (λ n. self.new.bytes ≡ drop n self.old.bytes) }
         ensures in_part { OnErr result
-            (BytesAreWrittenInPart (λ took. S.Passed stream.old took [] stream.new) self.old.bytes) }
+            (AFrontOfBytesIsWritten (λ took. S.Passed stream.old took [] stream.new) self.old.bytes) }
     {
         let n = write_what_stream_takes(stream, &self.bytes[self.sent..])?;
         let sent = self.sent + n;

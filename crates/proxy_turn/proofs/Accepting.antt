@@ -11,8 +11,8 @@ use Rattle.proxy_turn.specs.Calls.{Call, AcceptOutcome, Came, NoneCame, Failed}
 use Rattle.proxy_turn.specs.Counts.{Calls, CallCountsRiseBy}
 use Rattle.proxy_turn.specs.Turn.{HappeningIfAnyIsTaken}
 use Rattle.proxy_turn.specs.Over.{may_accept_more, happening_of_accept_outcome, AcceptsAreTaken, ends_of_accept_outcome, accepted_ends, calls_of_accepts, count_of_accepted_connection, count_of_failed_accept_outcome, count_of_accepted_connections, count_of_failed_accept_outcomes}
-use Rattle.proxy_turn.specs.OverParts.{OneAcceptIsReported, ListenerIsAskedAtMostOnce, AcceptsAreReported, ConnectionsAreAccepted}
-use Rattle.proxy_turn.specs.declared.bounds.TurnBounds.{TurnBounds}
+use Rattle.proxy_turn.specs.OverParts.{OneAcceptMatchesResult, ListenerIsAskedAtMostOnce, AcceptsMatchResult, ConnectionsAreAccepted}
+use Rattle.proxy_turn.specs.declared.bounds.TurnAcceptBounds.{TurnAcceptBounds}
 use Rattle.proxy_turn.specs.declared.report.TurnFault.{TurnFault}
 use Rattle.proxy_turn.specs.declared.report.TurnFault.TheVariants as faults
 use Rattle.proxy_turn.proofs.Called.{Joins}
@@ -94,7 +94,7 @@ pub so_far_none : (most : ℕ) (s : EngineModel) (given : List End) (e : State) 
 so_far_none most s given e did here represents none =
     record { came = []; mid = s; all = tt; are = refl; represents = represents; listed = sym (append-nil given); long = refl; calls = none; raises = raises_none here }
 
-module _ (bounds : TurnBounds) (s : EngineModel) (given : List End) (e : State) (more : List End) (did : List Call → Type 0) (a b : Calls) (number : ℕ) (done : SoFar bounds.most_open s given e more did a b number) where
+module _ (bounds : TurnAcceptBounds) (s : EngineModel) (given : List End) (e : State) (more : List End) (did : List Call → Type 0) (a b : Calls) (number : ℕ) (done : SoFar bounds.most_open s given e more did a b number) where
   -- as many calls were made as there may be
   pub full : (count : ℕ) → number ≡ bounds.most_accepts → count ≡ number → ConnectionsAreAccepted bounds s given e more did a b (Ok count)
   full count is same = record {
@@ -155,13 +155,13 @@ module _ (bounds : TurnBounds) (s : EngineModel) (given : List End) (e : State) 
     }
       where
         is : one.asked ≡ Came ∷ []
-        is = subst (OneAcceptIsReported bounds.most_open done.mid one.asked) came_is one.reports
+        is = subst (OneAcceptMatchesResult bounds.most_open done.mid one.asked) came_is one.reports
 
         came : AllCame both
         came = all_came done.came one.asked done.all (subst AllCame (sym is) (refl, tt))
 
     -- it was the last
-    pub ends_by : (answer : Result ℕ TurnFault) → number < bounds.most_accepts → length one.asked ≤ 1 → AcceptsAreReported bounds both one.begun answer → ConnectionsAreAccepted bounds s given new later all a c answer
+    pub ends_by : (answer : Result ℕ TurnFault) → number < bounds.most_accepts → length one.asked ≤ 1 → AcceptsMatchResult bounds both one.begun answer → ConnectionsAreAccepted bounds s given new later all a c answer
     ends_by answer left small reports = record {
       accepts = both;
       begun = one.begun;
@@ -176,7 +176,7 @@ module _ (bounds : TurnBounds) (s : EngineModel) (given : List End) (e : State) 
 
     -- no connection came
     pub ends_with_none : result ≡ Ok false → (count : ℕ) → count ≡ number → number < bounds.most_accepts → ConnectionsAreAccepted bounds s given new later all a c (Ok count)
-    ends_with_none is count same left = by (subst (OneAcceptIsReported bounds.most_open done.mid one.asked) is one.reports)
+    ends_with_none is count same left = by (subst (OneAcceptMatchesResult bounds.most_open done.mid one.asked) is one.reports)
       where
         sums : count_of_accepted_connections one.asked ≡ 0 → count ≡ count_of_accepted_connections both
         sums none = let long = done.long in let each = each_counts done.came done.all in let sum = sum_by-append count_of_accepted_connection done.came one.asked in omega (arith, same, long, each, sum, none)
@@ -192,9 +192,9 @@ module _ (bounds : TurnBounds) (s : EngineModel) (given : List End) (e : State) 
 
     -- a fault
     pub ends_by_fault : (fault : TurnFault) → result ≡ Err fault → number < bounds.most_accepts → ConnectionsAreAccepted bounds s given new later all a c (Err fault)
-    ends_by_fault fault is left = by fault (subst (OneAcceptIsReported bounds.most_open done.mid one.asked) is one.reports)
+    ends_by_fault fault is left = by fault (subst (OneAcceptMatchesResult bounds.most_open done.mid one.asked) is one.reports)
       where
-        by : (fault : TurnFault) → OneAcceptIsReported bounds.most_open done.mid one.asked (Err fault) → ConnectionsAreAccepted bounds s given new later all a c (Err fault)
+        by : (fault : TurnFault) → OneAcceptMatchesResult bounds.most_open done.mid one.asked (Err fault) → ConnectionsAreAccepted bounds s given new later all a c (Err fault)
         by faults.Listener last =
             ends_by (Err faults.Listener) left (let small = ap (λ (xs : List AcceptOutcome). length xs) last in omega (arith, small)) (done.came, ap (λ (xs : List AcceptOutcome). done.came ++ xs) last)
         by faults.NoMemory none =

@@ -5,7 +5,7 @@ use Rattle.std.proofs.lemmas.List.{map-append, length-append, length-map, append
 use Rattle.hx_status.specs.declared.cause.FailKind.{FailKind}
 use Rattle.proxy_engine.specs.EngineModel.{EngineModel}
 use Rattle.proxy_engine.specs.Orderly.{EndedEndsStayEndedAfterHappening}
-use Rattle.proxy_engine.specs.Room.{ConnectionReaderHasSpareBytes, LinkReaderHasSpareBytes, NextHappeningFindsMemory}
+use Rattle.proxy_engine.specs.Room.{ConnectionReaderHasRoomFor, LinkReaderHasRoomFor, NextHappeningFindsMemory}
 use Rattle.proxy_engine.specs.State.{State, EngineRepresents}
 use Rattle.proxy_engine.specs.declared.endpoints.ends.Connection.{Connection}
 use Rattle.proxy_engine.specs.declared.endpoints.ends.Link.{Link}
@@ -14,8 +14,8 @@ use Rattle.proxy_engine.specs.declared.work.End.TheVariants as ends
 use Rattle.proxy_turn.specs.Calls as call
 use Rattle.proxy_turn.specs.Calls.{Call}
 use Rattle.proxy_turn.specs.Counts.{Calls, CallCountsRiseBy}
-use Rattle.proxy_turn.specs.Turn.{happening_of_bytes, happening_of_end, happening_of_loss, count_of_failed_read, EndRead, ends_of_reads, count_of_failed_reads, calls_of_reads}
-use Rattle.proxy_turn.specs.Parts.{HappeningIfAnyFindsMemory, EndNumberWasGiven, EndNumbersWereGiven, OneEndIsRead, NoEndIsRead, EndsAreReadOnceEach}
+use Rattle.proxy_turn.specs.Turn.{happening_of_bytes, happening_of_input_end, happening_of_loss, one_if_read_failed, EndRead, ends_of_reads, count_of_failed_reads, calls_of_reads}
+use Rattle.proxy_turn.specs.Parts.{HappeningIfAnyFindsMemory, EndNumberWasGiven, EndNumbersWereGiven, OneEndIsRead, OutOfMemoryBeforeRead, EndsAreReadOnceEach}
 use Rattle.proxy_turn.specs.OverParts.{EndsOfListAreRead}
 use Rattle.proxy_turn.specs.declared.report.TurnFault.{TurnFault}
 use Rattle.proxy_turn.proofs.Called.{Joins, read_more}
@@ -23,11 +23,11 @@ use Rattle.proxy_turn.proofs.Counting.{raises_none, raises_on}
 use Rattle.proxy_turn.proofs.There.{all_there_later, there_at}
 use Rattle.proxy_turn.proofs.Turning.{reads_more, reads_stay, sum_more}
 
-roomy_less : (o : Option Connection) (n m : ℕ) → m ≤ n → ConnectionReaderHasSpareBytes o n → ConnectionReaderHasSpareBytes o m
+roomy_less : (o : Option Connection) (n m : ℕ) → m ≤ n → ConnectionReaderHasRoomFor o n → ConnectionReaderHasRoomFor o m
 roomy_less None n m l room = tt
 roomy_less (Some c) n m l room = omega (arith, l, room)
 
-roomy_link_less : (o : Option Link) (n m : ℕ) → m ≤ n → LinkReaderHasSpareBytes o n → LinkReaderHasSpareBytes o m
+roomy_link_less : (o : Option Link) (n m : ℕ) → m ≤ n → LinkReaderHasRoomFor o n → LinkReaderHasRoomFor o m
 roomy_link_less None n m l room = tt
 roomy_link_less (Some k) n m l room = omega (arith, l, room)
 
@@ -36,7 +36,7 @@ arrived_found e ends.Listener bytes room l = tt
 arrived_found e (ends.Client n) bytes room l = roomy_less (get_or e.connections (n - 1) None) 4096 (length bytes) l room
 arrived_found e (ends.Link k) bytes room l = roomy_link_less (get_or e.links (k - e.first) None) 4096 (length bytes) l room
 
-pub ended_found : (e : State) (end : End) → HappeningIfAnyFindsMemory e (happening_of_end end)
+pub ended_found : (e : State) (end : End) → HappeningIfAnyFindsMemory e (happening_of_input_end end)
 ended_found e ends.Listener = tt
 ended_found e (ends.Client n) = tt
 ended_found e (ends.Link k) = tt
@@ -64,7 +64,7 @@ reads_one s reads end e new did then all a b c count done one join =
       represents = one.took.represents;
       calls = subst all (sym (read_more reads r)) (join (calls_of_reads reads) (call.Read end one.given ∷ []) done.calls one.calls);
       raises = subst (λ (n : ℕ). CallCountsRiseBy a c 0 n (count_of_failed_reads (reads ++ r ∷ []))) (sym (length-append reads (r ∷ [])))
-          (subst (λ (n : ℕ). CallCountsRiseBy a c 0 (length reads + 1) n) (sym (sum_more (λ (x : EndRead). count_of_failed_read x.given) reads r)) (raises_on a b c 0 (length reads) (count_of_failed_reads reads) 0 1 (count_of_failed_read one.given) done.raises one.raises));
+          (subst (λ (n : ℕ). CallCountsRiseBy a c 0 (length reads + 1) n) (sym (sum_more (λ (x : EndRead). one_if_read_failed x.given) reads r)) (raises_on a b c 0 (length reads) (count_of_failed_reads reads) 0 1 (one_if_read_failed one.given) done.raises one.raises));
     }
 
 -- these ends were read
@@ -85,7 +85,7 @@ so_far_more s es i end e new did then all a b c faults count is l done one join 
       reads = done.reads ++ r ∷ [];
       ends = map-append (λ (x : EndRead). x.end) done.reads (r ∷ []) ∙ (ap (λ (xs : List End). xs ++ end ∷ []) done.ends ∙ sym next);
       some = reads_one s done.reads end e new did then all a b c count done.some one join;
-      counted = let before = done.counted in let here = one.counted in let sum = sum_more (λ (x : EndRead). count_of_failed_read x.given) done.reads r in omega (arith, before, here, sum);
+      counted = let before = done.counted in let here = one.counted in let sum = sum_more (λ (x : EndRead). one_if_read_failed x.given) done.reads r in omega (arith, before, here, sum);
     }
   where
     next : take (i + 1) es ≡ take i es ++ end ∷ []
@@ -107,7 +107,7 @@ read_whole s es n e did a b faults counts l done number more =
       reports = (refl, number ∙ (sym (ap length all) ∙ length-map done.reads (λ (x : EndRead). x.end)), more ∙ done.counted);
     }
 
-pub read_partly : (s : EngineModel) (es : List End) (i : ℕ) (e new : State) (did then all : List Call → Type 0) (a b c : Calls) (faults : ℕ) (fault : TurnFault) → (done : SoFar s (take i es) e did a b faults) → NoEndIsRead done.some.last new then b c fault → Joins did then all → EndsOfListAreRead s es new all a c (Err fault)
+pub read_partly : (s : EngineModel) (es : List End) (i : ℕ) (e new : State) (did then all : List Call → Type 0) (a b c : Calls) (faults : ℕ) (fault : TurnFault) → (done : SoFar s (take i es) e did a b faults) → OutOfMemoryBeforeRead done.some.last new then b c fault → Joins did then all → EndsOfListAreRead s es new all a c (Err fault)
 read_partly s es i e new did then all a b c faults fault done none join = record {
   reads = done.reads;
   rest = drop i es;

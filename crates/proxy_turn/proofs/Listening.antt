@@ -14,7 +14,7 @@ use Rattle.proxy_turn.specs.Calls.{Call, AcceptOutcome}
 use Rattle.proxy_turn.specs.Counts.{Calls, CallCountsRiseBy}
 use Rattle.proxy_turn.specs.Turn.{HappeningIfAnyIsTaken}
 use Rattle.proxy_turn.specs.Over.{may_accept_more, happening_of_accept_outcome, ends_of_accept_outcome, count_of_failed_accept_outcome}
-use Rattle.proxy_turn.specs.OverParts.{OneAcceptIsReported, ListenerIsAskedAtMostOnce}
+use Rattle.proxy_turn.specs.OverParts.{OneAcceptMatchesResult, ListenerIsAskedAtMostOnce}
 use Rattle.proxy_turn.specs.declared.report.TurnFault.{TurnFault}
 use Rattle.proxy_turn.proofs.Counting.{raises_none, raises_same}
 
@@ -76,7 +76,7 @@ none_left most s o is none = not_second (nat_lt (open_connection_count s) most) 
 -- ---- what asking it gives
 
 -- nothing was called
-pub not_asked : (most : ℕ) (s : EngineModel) (given : List End) (e : State) (more : List End) (did : List Call → Type 0) (here : Calls) (result : Result Bool TurnFault) → EngineRepresents e s → more ≡ given → did [] → OneAcceptIsReported most s [] result → ListenerIsAskedAtMostOnce most s given e more did here here result
+pub not_asked : (most : ℕ) (s : EngineModel) (given : List End) (e : State) (more : List End) (did : List Call → Type 0) (here : Calls) (result : Result Bool TurnFault) → EngineRepresents e s → more ≡ given → did [] → OneAcceptMatchesResult most s [] result → ListenerIsAskedAtMostOnce most s given e more did here here result
 not_asked most s given e more did here result represents same none reports = record {
   asked = [];
   begun = s;
@@ -89,7 +89,7 @@ not_asked most s given e more did here result represents same none reports = rec
 }
 
 -- it was called once
-pub asked_once : (most : ℕ) (s : EngineModel) (given : List End) (e : State) (more : List End) (did : List Call → Type 0) (a b : Calls) (result : Result Bool TurnFault) (answer : AcceptOutcome) (n : ℕ) (begun : EngineModel) → n ≡ length s.connections + 1 → may_accept_more most s ≡ true → HappeningIfAnyIsTaken s (happening_of_accept_outcome n answer) begun → EngineRepresents e begun → more ≡ given ++ ends_of_accept_outcome n answer → did (call.Accept n answer ∷ []) → CallCountsRiseBy a b 1 0 (count_of_failed_accept_outcome answer) → OneAcceptIsReported most s (answer ∷ []) result → ListenerIsAskedAtMostOnce most s given e more did a b result
+pub asked_once : (most : ℕ) (s : EngineModel) (given : List End) (e : State) (more : List End) (did : List Call → Type 0) (a b : Calls) (result : Result Bool TurnFault) (answer : AcceptOutcome) (n : ℕ) (begun : EngineModel) → n ≡ length s.connections + 1 → may_accept_more most s ≡ true → HappeningIfAnyIsTaken s (happening_of_accept_outcome n answer) begun → EngineRepresents e begun → more ≡ given ++ ends_of_accept_outcome n answer → did (call.Accept n answer ∷ []) → CallCountsRiseBy a b 1 0 (count_of_failed_accept_outcome answer) → OneAcceptMatchesResult most s (answer ∷ []) result → ListenerIsAskedAtMostOnce most s given e more did a b result
 asked_once most s given e more did a b result answer n begun is asks takes represents same called raises reports = record {
   asked = answer ∷ [];
   begun = begun;

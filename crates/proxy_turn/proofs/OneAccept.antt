@@ -10,23 +10,23 @@ use Rattle.proxy_engine.specs.declared.work.End.{End}
 use Rattle.proxy_turn.specs.Calls as call
 use Rattle.proxy_turn.specs.Calls.{Call, AcceptOutcome}
 use Rattle.proxy_turn.specs.Counts.{Calls}
-use Rattle.proxy_turn.specs.Turn.{AcceptCall, NotAsked, Failed, NoneCame, Came, may_accept_below_256, accept_was_called, happening_of_accept, HappeningIfAnyIsTaken, calls_of_accept, calls_of_reads, calls_of_rounds, count_of_accept_calls, count_of_accepted, count_of_failed_accepts, count_of_failed_reads, count_of_failed_in_rounds, TurnIsReported, EngineTurnsWithCalls}
-use Rattle.proxy_turn.specs.Over.{AcceptsAreTaken, LastAcceptOutcomeIs, NoMoreIsAccepted, may_accept_more, accepted_ends, ends_to_read, calls_of_accepts, count_of_accepted_connections, count_of_failed_accept_outcomes, TurnOverEndsIsReported, EngineTurnsOverEndsWithCalls}
-use Rattle.proxy_turn.specs.declared.bounds.TurnBounds.{TurnBounds}
+use Rattle.proxy_turn.specs.Turn.{AcceptOutcomeIfCalled, NotAsked, Failed, NoneCame, Came, may_accept_below_256, accept_was_called, happening_of_accept, HappeningIfAnyIsTaken, calls_of_accept, calls_of_reads, calls_of_rounds, count_of_accept_calls, count_of_accepted_if_called, count_of_failed_accepts, count_of_failed_reads, count_of_failed_in_rounds, TurnIsReported, EngineTurnsWithCalls}
+use Rattle.proxy_turn.specs.Over.{AcceptsAreTaken, LastAcceptOutcomeIs, AcceptsAreComplete, may_accept_more, accepted_ends, ends_to_read, calls_of_accepts, count_of_accepted_connections, count_of_failed_accept_outcomes, TurnOverGivenEndsIsReported, EngineTurnsOverGivenEndsWithCalls}
+use Rattle.proxy_turn.specs.declared.bounds.TurnAcceptBounds.{TurnAcceptBounds}
 use Rattle.proxy_turn.specs.declared.report.Report.{Report}
 use Rattle.proxy_turn.specs.declared.report.TurnFault.{TurnFault}
 use Rattle.proxy_turn.specs.declared.report.TurnFault.TheVariants as faults
 use Rattle.proxy_turn.proofs.Counting.{raises_none, raises_same}
 
-abbrev one_accept : TurnBounds
+abbrev one_accept : TurnAcceptBounds
 one_accept = record { most_open = 256; most_accepts = 1 }
 
-abbrev asked_of_answer : AcceptOutcome → AcceptCall
+abbrev asked_of_answer : AcceptOutcome → AcceptOutcomeIfCalled
 asked_of_answer call.Came = Came
 asked_of_answer call.NoneCame = NoneCame
 asked_of_answer call.Failed = Failed
 
-abbrev asked_of : List AcceptOutcome → AcceptCall
+abbrev asked_of : List AcceptOutcome → AcceptOutcomeIfCalled
 asked_of [] = NotAsked
 asked_of (a ∷ more) = asked_of_answer a
 
@@ -61,7 +61,7 @@ same_failed (call.NoneCame ∷ []) few = refl
 same_failed (call.Failed ∷ []) few = refl
 same_failed (a ∷ b ∷ more) few = too_many a b more few
 
-same_accepted : (xs : List AcceptOutcome) → length xs ≤ 1 → count_of_accepted_connections xs ≡ count_of_accepted (asked_of xs)
+same_accepted : (xs : List AcceptOutcome) → length xs ≤ 1 → count_of_accepted_connections xs ≡ count_of_accepted_if_called (asked_of xs)
 same_accepted [] few = refl
 same_accepted (call.Came ∷ []) few = refl
 same_accepted (call.NoneCame ∷ []) few = refl
@@ -84,7 +84,7 @@ never_last [] a is = absurd cc
 never_last (x ∷ front) a is = absurd cc
 
 -- whether it was called is whether it could be
-called_where : (s : EngineModel) (xs : List AcceptOutcome) (t : EngineModel) → AcceptsAreTaken 256 s xs t → NoMoreIsAccepted one_accept xs t → accept_was_called (asked_of xs) ≡ may_accept_below_256 s
+called_where : (s : EngineModel) (xs : List AcceptOutcome) (t : EngineModel) → AcceptsAreTaken 256 s xs t → AcceptsAreComplete one_accept xs t → accept_was_called (asked_of xs) ≡ may_accept_below_256 s
 called_where s [] t taken (inl all) = absurd (omega (arith, all))
 called_where s [] t taken (inr (inl none)) = sym none ∙ ap (may_accept_more 256) taken
 called_where s [] t taken (inr (inr last)) = never_last last.0 call.NoneCame last.1
@@ -121,7 +121,7 @@ module _ (each : ReadableEndsMaySend) (adds : AcceptAddsReadableEnd) where
 
   -- ---- a turn
 
-  pub one_turn : (now : ℕ) (s : EngineModel) (given : List End) (e : State) (left : List End) (did : List Call → Type 0) (a b : Calls) (result : Result Report TurnFault) → given ≡ readable_ends_of s → EngineTurnsOverEndsWithCalls now one_accept s given e left did a b result → EngineTurnsWithCalls now s e did a b result
+  pub one_turn : (now : ℕ) (s : EngineModel) (given : List End) (e : State) (left : List End) (did : List Call → Type 0) (a b : Calls) (result : Result Report TurnFault) → given ≡ readable_ends_of s → EngineTurnsOverGivenEndsWithCalls now one_accept s given e left did a b result → EngineTurnsWithCalls now s e did a b result
   one_turn now s given e left did a b result is whole = record {
     turns = record {
       asked = asked_of whole.turns.accepts;
@@ -155,7 +155,7 @@ module _ (each : ReadableEndsMaySend) (adds : AcceptAddsReadableEnd) where
       unbroken : count_of_failed_accept_outcomes whole.turns.accepts ≡ 0 → count_of_failed_accepts (asked_of whole.turns.accepts) ≡ 0
       unbroken none = sym (same_failed whole.turns.accepts few) ∙ none
 
-      reports : (result : Result Report TurnFault) → TurnOverEndsIsReported one_accept whole.turns.accepts whole.turns.turn.begun whole.turns.reads whole.turns.rest whole.turns.rounds whole.turns.last result → TurnIsReported s (asked_of whole.turns.accepts) whole.turns.reads whole.turns.rest whole.turns.rounds whole.turns.last result
+      reports : (result : Result Report TurnFault) → TurnOverGivenEndsIsReported one_accept whole.turns.accepts whole.turns.turn.begun whole.turns.reads whole.turns.rest whole.turns.rounds whole.turns.last result → TurnIsReported s (asked_of whole.turns.accepts) whole.turns.reads whole.turns.rest whole.turns.rounds whole.turns.last result
       reports (Ok report) t = record {
         asked_is = called_where s whole.turns.accepts whole.turns.turn.begun whole.turns.turn.accepts_are t.accepts_are;
         unbroken = unbroken t.unbroken;

@@ -7,9 +7,9 @@ use Rattle.proxy_engine.specs.declared.work.End.{End}
 use Rattle.proxy_engine.specs.declared.work.End.TheVariants as ends
 use Rattle.proxy_turn.specs.Calls.{AcceptOutcome, Came, NoneCame, Failed}
 use Rattle.proxy_turn.specs.Turn.{ends_of_reads}
-use Rattle.proxy_turn.specs.Over.{may_accept_more, LastAcceptOutcomeIs, NoMoreIsAccepted, accepted_ends}
-use Rattle.proxy_turn.specs.OverCases.{NoMoreAcceptsThanTheBound, NoAcceptAtTheConnectionBound, NoAcceptAfterNoConnectionCame, NoUnreadableEndIsRead, NoEndIsReadTwice, NoHandedInEndIsSkipped, NoAcceptedEndIsSkipped, NoReadBeforeTheAccepts, NoActBeforeAllEndsAreRead, NoMoreActsThanAThousand, NoReportOmitsAnUnreadEnd, NoReportOmitsAConnection, NoReportCountsWhatWasNotDone, ListenerFaultOnlyAfterFailedAccept, NoUnreadableEndIsListed}
-use Rattle.proxy_turn.specs.declared.bounds.TurnBounds.{TurnBounds}
+use Rattle.proxy_turn.specs.Over.{may_accept_more, LastAcceptOutcomeIs, AcceptsAreComplete, accepted_ends}
+use Rattle.proxy_turn.specs.OverCases.{NoMoreAcceptsThanTheBound, NoAcceptAtTheConnectionBound, NoAcceptAfterNoConnectionCame, NoUnreadableEndIsRead, NoEndIsReadTwice, NoHandedInEndIsSkipped, NoAcceptedEndIsSkipped, NoReadBeforeTheAccepts, NoActBeforeAllEndsAreRead, NoMoreActsThanAThousand, NoReportOmitsAnUnreadEnd, NoReportedTurnStopsAcceptingEarly, NoReportCountsWhatWasNotDone, ListenerFaultOnlyAfterFailedAccept, NoUnreadableEndIsListed}
+use Rattle.proxy_turn.specs.declared.bounds.TurnAcceptBounds.{TurnAcceptBounds}
 use Rattle.proxy_turn.proofs.OneAccept.{never_last}
 
 left_true : (a b : Bool) → a && b ≡ true → a ≡ true
@@ -68,7 +68,7 @@ none_passed now bounds s t end rounds turn sends = passes_through (end_may_send 
 pub none_accepted_passed : NoAcceptedEndIsSkipped
 none_accepted_passed now bounds s t rounds turn sends = passes_through (end_may_send turn.begun (ends.Client (length s.connections + 1))) (ends.Client (length s.connections + 1)) turn.ends sends
 
-asked_for_more : (bounds : TurnBounds) (s begun : EngineModel) → begun ≡ s → 0 < bounds.most_accepts → may_accept_more bounds.most_open s ≡ true → NoMoreIsAccepted bounds [] begun → ⊥
+asked_for_more : (bounds : TurnAcceptBounds) (s begun : EngineModel) → begun ≡ s → 0 < bounds.most_accepts → may_accept_more bounds.most_open s ≡ true → AcceptsAreComplete bounds [] begun → ⊥
 asked_for_more bounds s begun same left asks (inl all) = omega (arith, left, all)
 asked_for_more bounds s begun same left asks (inr (inl none)) = false≢true (sym none ∙ (ap (may_accept_more bounds.most_open) same ∙ asks))
 asked_for_more bounds s begun same left asks (inr (inr last)) = never_last last.0 NoneCame last.1
@@ -76,7 +76,7 @@ asked_for_more bounds s begun same left asks (inr (inr last)) = never_last last.
 pub none_before : NoReadBeforeTheAccepts
 none_before now bounds s t given read reads rest rounds turn left asks = by turn.accepts_come_first
   where
-    by : NoMoreIsAccepted bounds [] turn.begun ⊎ (((read ∷ reads) ≡ []) × (rounds ≡ [])) → ⊥
+    by : AcceptsAreComplete bounds [] turn.begun ⊎ (((read ∷ reads) ≡ []) × (rounds ≡ [])) → ⊥
     by (inl no_more) = asked_for_more bounds s turn.begun turn.accepts_are left asks no_more
     by (inr none) = let never : read ∷ reads ≡ [] = none.0 in absurd cc
 
@@ -93,10 +93,10 @@ no_more_acts now bounds s t given accepts reads rest rounds turn more = let boun
 pub no_end_out : NoReportOmitsAnUnreadEnd
 no_end_out bounds begun t accepts reads end rest rounds report h = let never : end ∷ rest ≡ [] = h.rest_is in absurd cc
 
-pub no_connection_out : NoReportOmitsAConnection
+pub no_connection_out : NoReportedTurnStopsAcceptingEarly
 no_connection_out bounds begun t reads rest rounds report h left asks = by h.accepts_are
   where
-    by : NoMoreIsAccepted bounds (Came ∷ []) begun → ⊥
+    by : AcceptsAreComplete bounds (Came ∷ []) begun → ⊥
     by (inl all) = omega (arith, all, left)
     by (inr (inl none)) = false≢true (sym none ∙ asks)
     by (inr (inr last)) = let never : Came ≡ NoneCame = last_of_one Came NoneCame last in absurd cc

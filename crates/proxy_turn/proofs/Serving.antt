@@ -8,7 +8,7 @@ use Rattle.hx_framing.specs.declared.messages.Next.TheVariants as next
 use Rattle.hx_framing.specs.declared.messages.Request.{Request}
 use Rattle.hx_hop.specs.declared.request_view.Asked.{Asked}
 use Rattle.hx_status.specs.declared.cause.Cause.{Cause}
-use Rattle.hx_status.specs.declared.question.Question.{Question}
+use Rattle.hx_status.specs.declared.question.MethodAndTarget.{MethodAndTarget}
 use Rattle.hx_store.specs.Stored.{Stored}
 use Rattle.proxy_core.specs.State.{State as CoreState}
 use Rattle.proxy_core.specs.Traces.{initial_state as core_begun}
@@ -18,16 +18,16 @@ use Rattle.proxy_engine.specs.Admitted.{Refusal}
 use Rattle.proxy_engine.specs.Happenings.{HappeningModel, Accepts, Sends, Hears, Ends, Leaves, Retires, Overdues, Shuts, Fails}
 use Rattle.proxy_engine.specs.EngineModel.{EngineModel, model_after_happening, model_with_core}
 use Rattle.proxy_engine.specs.Due.{Act, Abandons, Finishes, Wakes, Serves, Gives, Breaks}
-use Rattle.proxy_engine.specs.Acts.{request_is_head, ActIsDone, CoreIsStepped, RequestIsRefused, ConnectionIsClosed, ConnectionIsServed, RequestArrives, OutcomeOnConnection, Replies, Forwards, Queues, Nothing, outcome_with_origin_address, model_after_outcome}
+use Rattle.proxy_engine.specs.Acts.{request_is_head, ActIsDone, CoreIsStepped, RequestIsRefusedAndClosed, ConnectionIsClosedWithEffect, ConnectionRequestIsServed, RequestArrivesOrIsRefused, OutcomeOnConnection, Replies, Forwards, Queues, Nothing, outcome_with_origin_address, model_after_outcome}
 use Rattle.proxy_engine.specs.Orderly.{ModelIsConsistent, NewModelIsConsistent, HappeningKeepsModelConsistent, ActKeepsModelConsistent}
 use Rattle.proxy_engine.specs.Executions.{ExecutionStep, Took, Worked, StepsLeadToModel, CoreStepsOfExecutionsAreGoodRuns}
 use Rattle.proxy_engine.specs.State.{State, EngineRepresents}
 use Rattle.proxy_engine.specs.Beginnings.{ResponsesMayBeHeldAtStart, engine_model_at_start, store_holding}
-use Rattle.proxy_turn.specs.OverSteps.{TurnOverEndsStepsAreExecuted}
-use Rattle.proxy_turn.specs.declared.bounds.TurnBounds.{TurnBounds}
+use Rattle.proxy_turn.specs.OverSteps.{TurnOverGivenEndsStepsAreExecuted}
+use Rattle.proxy_turn.specs.declared.bounds.TurnAcceptBounds.{TurnAcceptBounds}
 use Rattle.proxy_turn.specs.declared.report.Report.{Report}
 use Rattle.proxy_turn.specs.declared.report.TurnFault.{TurnFault}
-use Rattle.proxy_turn.specs.Served.{initial_model_of, EngineLivedThroughSteps, steps_taking_happenings, IsLossOfAnEnd, TurnIsServedAfterEndLosses, steps_of_served_turn, EndLossesMayBeNone, OneEndLossIsTaken, EndLossesAreTakenTransitively, EndLossesAreTakenInOrder, EndLossesKeepModelConsistent, EngineContinuesByEndLosses, TurnIsServedByEndLossesAndTurn, NewEngineIsReachable, EngineContinuesByNothing, EngineContinuesTransitively, EngineContinuesByHappening, EngineContinuesByTurn, ReachableEngineStaysReachable, ReachableEngineHasServedAGoodRun, TurnExecutesItsSteps, ExecutedEngineHasServedAGoodRun, EngineKeepsItsTable}
+use Rattle.proxy_turn.specs.Served.{initial_model_of, EngineLivedThroughSteps, steps_taking_happenings, IsLossTimeoutOrRetirement, TurnIsServedAfterEndLosses, steps_of_served_turn, EndLossesMayBeNone, OneEndLossIsTaken, EndLossesAreTakenTransitively, EndLossesAreTakenInOrder, EndLossesKeepModelConsistent, EngineContinuesByEndLosses, TurnIsServedByEndLossesAndTurn, NewEngineIsReachable, EngineContinuesByNothing, EngineContinuesTransitively, EngineContinuesByHappening, EngineContinuesByTurn, ReachableEngineStaysReachable, ReachableEngineHasServedAGoodRun, TurnExecutesItsSteps, ExecutedEngineHasServedAGoodRun, EngineKeepsItsTable}
 use Rattle.proxy_turn.proofs.Stepping.{executes_on}
 
 -- ---- the table and the room of the store stay
@@ -66,17 +66,17 @@ does_keep s now (Finishes j (Breaks kind)) emitted after done = steps_keep s _ _
 does_keep s now (Wakes i) emitted after done = steps_keep s _ _ _ _ _ emitted after done.1
 does_keep s now (Serves i action) emitted after done = by_action action done
   where
-    refuses : (why : Cause) (head : Bool) (question : Option Question) → RequestIsRefused s now i why head question emitted after → kept after ≡ kept s
+    refuses : (why : Cause) (head : Bool) (question : Option MethodAndTarget) → RequestIsRefusedAndClosed s now i why head question emitted after → kept after ≡ kept s
     refuses why head question d = ap kept d.after_is
 
-    closes : ConnectionIsClosed s i emitted after → kept after ≡ kept s
+    closes : ConnectionIsClosedWithEffect s i emitted after → kept after ≡ kept s
     closes d = ap kept d.1
 
-    arrives : (r : Request) (judged : Result Asked Refusal) → RequestArrives s now i r judged emitted after → kept after ≡ kept s
+    arrives : (r : Request) (judged : Result Asked Refusal) → RequestArrivesOrIsRefused s now i r judged emitted after → kept after ≡ kept s
     arrives r (Ok asked) d = steps_keep s _ _ _ _ _ emitted after d.1
     arrives r (Err refusal) d = refuses _ _ _ d
 
-    by_action : (w : Next Request) → ConnectionIsServed s now i w emitted after → kept after ≡ kept s
+    by_action : (w : Next Request) → ConnectionRequestIsServed s now i w emitted after → kept after ≡ kept s
     by_action next.More d = absurd d
     by_action next.NeedsContinue d = ap kept d.1
     by_action (next.Message r) d = arrives r d.0 d.2
@@ -119,7 +119,7 @@ take_both : (hs more : List HappeningModel) (past : List ExecutionStep) → step
 take_both [] more past = refl
 take_both (h ∷ hs) more past = take_both hs more (Took h ∷ past)
 
-both_losses : (hs more : List HappeningModel) → AllByRecursion IsLossOfAnEnd hs → AllByRecursion IsLossOfAnEnd more → AllByRecursion IsLossOfAnEnd (hs ++ more)
+both_losses : (hs more : List HappeningModel) → AllByRecursion IsLossTimeoutOrRetirement hs → AllByRecursion IsLossTimeoutOrRetirement more → AllByRecursion IsLossTimeoutOrRetirement (hs ++ more)
 both_losses [] more are others = others
 both_losses (h ∷ hs) more are others = (are.0, both_losses hs more are.1 others)
 
@@ -208,9 +208,9 @@ takes_go_on e new h taken s represents orderly =
     let took = taken s represents in
     record { steps = Took h ∷ []; last = model_after_happening s h; executes = (s, refl, (took.free, refl)); represents = took.represents }
 
-module _ (executed : TurnOverEndsStepsAreExecuted) where
+module _ (executed : TurnOverGivenEndsStepsAreExecuted) where
   -- behind what was lived before it
-  served_executes : (begin : EngineModel) (past : List ExecutionStep) (e new : State) (s : EngineModel) (now : ℕ) (bounds : TurnBounds) (emitted : Result Report TurnFault) → StepsLeadToModel begin past s → (served : TurnIsServedAfterEndLosses now bounds s new emitted) → StepsLeadToModel begin (steps_of_served_turn served past) served.turn.last
+  served_executes : (begin : EngineModel) (past : List ExecutionStep) (e new : State) (s : EngineModel) (now : ℕ) (bounds : TurnAcceptBounds) (emitted : Result Report TurnFault) → StepsLeadToModel begin past s → (served : TurnIsServedAfterEndLosses now bounds s new emitted) → StepsLeadToModel begin (steps_of_served_turn served past) served.turn.last
   served_executes begin past e new s now bounds emitted before served =
       let turn = served.turn in
       executed begin (steps_taking_happenings served.lost past) now bounds served.mid served.given turn.accepts turn.reads turn.rest turn.rounds turn.last (takes_live served.lost begin past s served.mid before served.takes) turn.turn

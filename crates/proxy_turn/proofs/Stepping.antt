@@ -6,10 +6,10 @@ use Rattle.proxy_engine.specs.EngineModel.{EngineModel}
 use Rattle.proxy_engine.specs.Executions.{ExecutionStep, Worked, StepsLeadToModel, effects_of_steps}
 use Rattle.proxy_engine.specs.Reading.{failed_links}
 use Rattle.proxy_engine.specs.declared.work.End.{End}
-use Rattle.proxy_turn.specs.Turn.{HappeningIfAnyIsTaken, happening_of_accept, happening_of_read, EndRead, ReadsAreTaken, happening_of_loss, end_of_effect, EffectFate, Carried, Passed, Lost, EffectsAreCarriedOut, ActWithEffectFates, ActsAreCarriedOut}
+use Rattle.proxy_turn.specs.Turn.{HappeningIfAnyIsTaken, happening_of_accept, happening_of_read, EndRead, ReadsAreTaken, happening_of_loss, end_of_effect, EffectFate, Carried, Passed, Lost, EffectsAreHandledWithFates, ActWithEffectFates, ActsAreDoneWithEffectFates}
 use Rattle.proxy_turn.specs.Calls.{AcceptOutcome, Came}
 use Rattle.proxy_turn.specs.Over.{happening_of_accept_outcome, AcceptsAreTaken}
-use Rattle.proxy_turn.specs.OverSteps.{steps_of_accepts, TurnOverEndsStepsAreExecuted, TurnOverEndsStepsEmitTheirEffects}
+use Rattle.proxy_turn.specs.OverSteps.{steps_of_accepts, TurnOverGivenEndsStepsAreExecuted, TurnOverGivenEndsStepsEmitTheirEffects}
 use Rattle.proxy_turn.proofs.Accepting.{one_long}
 use Rattle.proxy_turn.specs.TurnSteps.{step_of_happening_if_any, steps_of_reads, steps_of_lost_ends, steps_of_rounds, effects_of_rounds, TurnStepsAreExecuted, TurnStepsEmitTheirEffects}
 
@@ -29,7 +29,7 @@ module _ (begin : EngineModel) where
   reads_executed (r ∷ rs) past s t executed before =
       reads_executed rs (step_of_happening_if_any (happening_of_read r.end r.given) past) before.0 t (if_executed past s (happening_of_read r.end r.given) before.0 executed before.1) before.2
 
-  carries_executed : (es : List Effect) (fs : List EffectFate) (past : List ExecutionStep) (s : EngineModel) (gone : List End) (t : EngineModel) (more : List End) → StepsLeadToModel begin past s → EffectsAreCarriedOut s gone es fs t more → StepsLeadToModel begin (steps_of_lost_ends es fs past) t
+  carries_executed : (es : List Effect) (fs : List EffectFate) (past : List ExecutionStep) (s : EngineModel) (gone : List End) (t : EngineModel) (more : List End) → StepsLeadToModel begin past s → EffectsAreHandledWithFates s gone es fs t more → StepsLeadToModel begin (steps_of_lost_ends es fs past) t
   carries_executed [] [] past s gone t more executed here = subst (StepsLeadToModel begin past) (sym here.0) executed
   carries_executed [] (f ∷ fs) past s gone t more executed out = absurd out
   carries_executed (e ∷ es) [] past s gone t more executed out = absurd out
@@ -40,7 +40,7 @@ module _ (begin : EngineModel) where
   carries_executed (e ∷ es) (Lost kind ∷ fs) past s gone t more executed out =
       carries_executed es fs (step_of_happening_if_any (happening_of_loss (end_of_effect e) kind) past) out.0 out.1 t more (if_executed past s (happening_of_loss (end_of_effect e) kind) out.0 executed out.2.2) out.3
 
-  works_executed : (rs : List ActWithEffectFates) (now : ℕ) (past : List ExecutionStep) (s : EngineModel) (gone : List End) (t : EngineModel) (more : List End) → StepsLeadToModel begin past s → ActsAreCarriedOut now s gone rs t more → StepsLeadToModel begin (steps_of_rounds now rs past) t
+  works_executed : (rs : List ActWithEffectFates) (now : ℕ) (past : List ExecutionStep) (s : EngineModel) (gone : List End) (t : EngineModel) (more : List End) → StepsLeadToModel begin past s → ActsAreDoneWithEffectFates now s gone rs t more → StepsLeadToModel begin (steps_of_rounds now rs past) t
   works_executed [] now past s gone t more executed here = subst (StepsLeadToModel begin past) (sym here.0) executed
   works_executed (r ∷ rs) now past s gone t more executed w =
       works_executed rs now (steps_of_lost_ends r.emitted r.fates (Worked now r.act r.emitted ∷ past)) w.1 w.2 t more
@@ -65,7 +65,7 @@ turns_execute_their_steps begin past now s asked reads rest rounds t executed tu
     works_executed begin rounds now (steps_of_reads reads began) turn.read (failed_links turn.read) t turn.gone
     (reads_executed begin reads began turn.begun turn.read (if_executed begin past s (happening_of_accept s asked) turn.begun executed turn.accepts) turn.reads_are) turn.works
 
-pub turns_over_are_executed : TurnOverEndsStepsAreExecuted
+pub turns_over_are_executed : TurnOverGivenEndsStepsAreExecuted
 turns_over_are_executed begin past now bounds s given accepts reads rest rounds t executed turn =
     let began = steps_of_accepts (length s.connections + 1) accepts past in
     works_executed begin rounds now (steps_of_reads reads began) turn.read (failed_links turn.read) t turn.gone
@@ -105,7 +105,7 @@ emitted_by_accepts : (xs : List AcceptOutcome) (n : ℕ) (past : List ExecutionS
 emitted_by_accepts [] n past = refl
 emitted_by_accepts (a ∷ xs) n past = emitted_by_accepts xs (n + 1) (step_of_happening_if_any (happening_of_accept_outcome n a) past) ∙ emitted_if (happening_of_accept_outcome n a) past
 
-pub turns_over_emit : TurnOverEndsStepsEmitTheirEffects
+pub turns_over_emit : TurnOverGivenEndsStepsEmitTheirEffects
 turns_over_emit past now s accepts reads rounds =
     let began = steps_of_accepts (length s.connections + 1) accepts past in
     emitted_by_rounds rounds now (steps_of_reads reads began)

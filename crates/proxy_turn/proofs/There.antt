@@ -10,24 +10,24 @@ use Rattle.hx_framing.specs.declared.messages.Next.TheVariants as next
 use Rattle.hx_framing.specs.declared.messages.Request.{Request}
 use Rattle.hx_hop.specs.declared.request_view.Asked.{Asked}
 use Rattle.hx_status.specs.declared.about.StatusAndReason.{StatusAndReason}
-use Rattle.hx_status.specs.declared.question.Question.{Question}
+use Rattle.hx_status.specs.declared.question.MethodAndTarget.{MethodAndTarget}
 use Rattle.proxy_core.specs.declared.event.Event.{Event}
 use Rattle.proxy_core.specs.declared.event.Event.TheVariants as events
 use Rattle.proxy_script.specs.declared.effect_list.Effect.{Effect}
 use Rattle.proxy_script.specs.declared.effect_list.Effect.TheVariants as effects
 use Rattle.proxy_engine.specs.Admitted.{Refusal}
-use Rattle.proxy_engine.specs.EngineModel.{EngineModel, ConnectionModel, LinkModel, no_connection, no_link, new_link_model, connection_at, link_at, with_connection, model_with_core, connection_fault, link_number_fault}
+use Rattle.proxy_engine.specs.EngineModel.{EngineModel, ConnectionModel, LinkModel, no_connection, no_link, new_link_model, connection_at, link_at, with_changed_connection, model_with_core, fault_of_unknown_connection, fault_of_unknown_link}
 use Rattle.proxy_engine.specs.declared.endpoints.activities.Activity.TheVariants.{Free}
 use Rattle.proxy_engine.specs.Due.{Act, Abandons, Finishes, Wakes, Serves, Gives, Breaks}
-use Rattle.proxy_engine.specs.Questions.{question_of}
-use Rattle.proxy_engine.specs.Acts.{request_is_head, ActIsDone, CoreIsStepped, RequestIsRefused, ConnectionIsClosed, ConnectionIsServed, RequestArrives, OutcomeOnConnection, Replies, Forwards, Queues, Nothing, outcome_with_origin_address, effects_of_outcome, model_after_outcome, next_link_number, model_after_link_freed, connection_with_activity, link_model_dropped, with_due_answer_used}
+use Rattle.proxy_engine.specs.Questions.{question_of_request}
+use Rattle.proxy_engine.specs.Acts.{request_is_head, ActIsDone, CoreIsStepped, RequestIsRefusedAndClosed, ConnectionIsClosedWithEffect, ConnectionRequestIsServed, RequestArrivesOrIsRefused, OutcomeOnConnection, Replies, Forwards, Queues, Nothing, outcome_with_origin_address, effects_of_outcome, model_after_outcome, next_link_number, model_after_link_freed, connection_with_activity, link_model_dropped, connection_with_due_answer_used}
 use Rattle.proxy_engine.specs.Orderly.{ConnectionIsOpen, LinkIsDropped, EffectsNameOpenEnds, EndedEndsStayEnded}
 use Rattle.proxy_engine.specs.declared.work.EngineFault.TheVariants.{NotAccepted, WrongNumber}
 use Rattle.proxy_engine.specs.declared.work.End.{End}
 use Rattle.proxy_engine.specs.declared.work.End.TheVariants as ends
 use Rattle.hx_status.specs.declared.cause.Cause.{Cause}
 use Rattle.hx_status.specs.declared.cause.FailKind.{FailKind}
-use Rattle.proxy_turn.specs.Turn.{happening_of_bytes, happening_of_end, happening_of_loss, end_of_effect}
+use Rattle.proxy_turn.specs.Turn.{happening_of_bytes, happening_of_input_end, happening_of_loss, end_of_effect}
 use Rattle.proxy_turn.specs.Parts.{EndNumberWasGiven, EndNumbersWereGiven, HappeningCanBeTaken}
 
 -- ---- numbers
@@ -60,20 +60,20 @@ none_true : {A : Type 0} (b : Bool) (x : A) → cond b None (Some x) ≡ None �
 none_true true x e = refl
 none_true false x e = absurd cc
 
-client_there : (count n : ℕ) → 0 < n → n ≤ count → connection_fault count n ≡ None
+client_there : (count n : ℕ) → 0 < n → n ≤ count → fault_of_unknown_connection count n ≡ None
 client_there count n positive within =
     ap (λ (b : Bool). cond b None (Some NotAccepted)) (both_true (nat_lt 0 n) (nat_le n count) (lt_true 0 n positive) (le_true n count within))
 
-link_there : (first count l : ℕ) → first ≤ l → l - first < count → link_number_fault first count l ≡ None
+link_there : (first count l : ℕ) → first ≤ l → l - first < count → fault_of_unknown_link first count l ≡ None
 link_there first count l from within =
     ap (λ (b : Bool). cond b None (Some WrongNumber)) (both_true (nat_le first l) (nat_lt (l - first) count) (le_true first l from) (lt_true (l - first) count within))
 
-client_within : (count n : ℕ) → connection_fault count n ≡ None → (0 < n) × (n ≤ count)
+client_within : (count n : ℕ) → fault_of_unknown_connection count n ≡ None → (0 < n) × (n ≤ count)
 client_within count n free =
     let b = none_true (nat_lt 0 n && nat_le n count) NotAccepted free in
     (lt_from 0 n (left_true (nat_lt 0 n) (nat_le n count) b), le_from n count (right_true (nat_lt 0 n) (nat_le n count) b))
 
-link_within : (first count l : ℕ) → link_number_fault first count l ≡ None → (first ≤ l) × (l - first < count)
+link_within : (first count l : ℕ) → fault_of_unknown_link first count l ≡ None → (first ≤ l) × (l - first < count)
 link_within first count l free =
     let b = none_true (nat_le first l && nat_lt (l - first) count) WrongNumber free in
     (le_from first l (left_true (nat_le first l) (nat_lt (l - first) count) b), lt_from (l - first) count (right_true (nat_le first l) (nat_lt (l - first) count) b))
@@ -107,7 +107,7 @@ arrived_free s ends.Listener bytes there = tt
 arrived_free s (ends.Client n) bytes there = there
 arrived_free s (ends.Link l) bytes there = there
 
-pub ended_free : (s : EngineModel) (end : End) → EndNumberWasGiven s end → HappeningCanBeTaken s (happening_of_end end)
+pub ended_free : (s : EngineModel) (end : End) → EndNumberWasGiven s end → HappeningCanBeTaken s (happening_of_input_end end)
 ended_free s ends.Listener there = tt
 ended_free s (ends.Client n) there = there
 ended_free s (ends.Link l) there = there
@@ -138,7 +138,7 @@ not_both : {A : Type 0} (b : Bool) → b ≡ true → b ≡ false → A
 not_both true e f = absurd cc
 not_both false e f = absurd cc
 
-replies_none : (i number : ℕ) (question : Option Question) (bytes : List ℕ) (about : StatusAndReason) (close : Bool) → forwards (effects_of_outcome i number question (Replies bytes about close)) ≡ false
+replies_none : (i number : ℕ) (question : Option MethodAndTarget) (bytes : List ℕ) (about : StatusAndReason) (close : Bool) → forwards (effects_of_outcome i number question (Replies bytes about close)) ≡ false
 replies_none i number question bytes about true = refl
 replies_none i number question bytes about false = refl
 
@@ -147,8 +147,8 @@ steps_open : (s t : EngineModel) (i : ℕ) (asked : Option Asked) (event : Event
     → CoreIsStepped s t i asked event before emitted after → forwards emitted ≡ true → length s.links < length after.links
 steps_open s t i asked event before emitted after same apart steps e = by (outcome_with_origin_address s.core.table steps.outcome) steps.emitted_is steps.after_is
   where
-    by : (c : OutcomeOnConnection) → emitted ≡ before ++ effects_of_outcome i (next_link_number s) (option_map question_of asked) c → after ≡ model_after_outcome i (request_is_head asked) c (model_with_core t steps.core) → length s.links < length after.links
-    by (Replies bytes about close) emitted_is after_is = not_both (forwards emitted) e (ap forwards emitted_is ∙ (apart (effects_of_outcome i (next_link_number s) (option_map question_of asked) (Replies bytes about close)) ∙ replies_none i (next_link_number s) (option_map question_of asked) bytes about close))
+    by : (c : OutcomeOnConnection) → emitted ≡ before ++ effects_of_outcome i (next_link_number s) (option_map question_of_request asked) c → after ≡ model_after_outcome i (request_is_head asked) c (model_with_core t steps.core) → length s.links < length after.links
+    by (Replies bytes about close) emitted_is after_is = not_both (forwards emitted) e (ap forwards emitted_is ∙ (apart (effects_of_outcome i (next_link_number s) (option_map question_of_request asked) (Replies bytes about close)) ∙ replies_none i (next_link_number s) (option_map question_of_request asked) bytes about close))
     by (Forwards address bytes) emitted_is after_is =
         let long = ap (λ (u : EngineModel). length u.links) after_is ∙ length-append t.links (new_link_model steps.core.table.max_body (request_is_head asked) i ∷ []) in
         omega (arith, same, long)
@@ -159,23 +159,23 @@ steps_open s t i asked event before emitted after same apart steps e = by (outco
 opens : (s : EngineModel) (now : ℕ) (act : Act) (emitted : List Effect) (after : EngineModel) → ActIsDone s now act emitted after → forwards emitted ≡ true → length s.links < length after.links
 opens s now (Abandons i (Some l)) emitted after done e =
     steps_open s (model_after_link_freed s l i) i None (events.Abandon (i + 1)) (effects.Drop (s.first + l) ∷ []) emitted after (length-set s.links l (link_model_dropped (link_at s l))) (λ more. refl) done e
-opens s now (Abandons i None) emitted after done e = steps_open s (with_connection s i (connection_with_activity Free)) i None (events.Abandon (i + 1)) [] emitted after refl (λ more. refl) done e
+opens s now (Abandons i None) emitted after done e = steps_open s (with_changed_connection s i (connection_with_activity Free)) i None (events.Abandon (i + 1)) [] emitted after refl (λ more. refl) done e
 opens s now (Finishes j (Gives r)) emitted after done e = steps_open s (model_after_link_freed s j (link_at s j).connection) _ _ _ (effects.Drop (s.first + j) ∷ []) emitted after (length-set s.links j (link_model_dropped (link_at s j))) (λ more. refl) done.1 e
 opens s now (Finishes j (Breaks kind)) emitted after done e = steps_open s (model_after_link_freed s j (link_at s j).connection) _ _ _ (effects.Drop (s.first + j) ∷ []) emitted after (length-set s.links j (link_model_dropped (link_at s j))) (λ more. refl) done e
-opens s now (Wakes i) emitted after done e = steps_open s (with_connection s i (connection_with_activity Free)) i _ (events.Wake now (i + 1)) [] emitted after refl (λ more. refl) done.1 e
+opens s now (Wakes i) emitted after done e = steps_open s (with_changed_connection s i (connection_with_activity Free)) i _ (events.Wake now (i + 1)) [] emitted after refl (λ more. refl) done.1 e
 opens s now (Serves i action) emitted after done e = by_action action done
   where
-    refuses : (why : Cause) (head : Bool) (question : Option Question) → RequestIsRefused s now i why head question emitted after → length s.links < length after.links
+    refuses : (why : Cause) (head : Bool) (question : Option MethodAndTarget) → RequestIsRefusedAndClosed s now i why head question emitted after → length s.links < length after.links
     refuses why head question d = not_both (forwards emitted) e (ap forwards d.emitted_is)
 
-    closes : ConnectionIsClosed s i emitted after → length s.links < length after.links
+    closes : ConnectionIsClosedWithEffect s i emitted after → length s.links < length after.links
     closes d = not_both (forwards emitted) e (ap forwards d.0)
 
-    arrives : (r : Request) (judged : Result Asked Refusal) → RequestArrives s now i r judged emitted after → length s.links < length after.links
-    arrives r (Ok asked) d = steps_open s (with_connection s i (with_due_answer_used (next.Message r))) _ _ _ [] emitted after refl (λ more. refl) d.1 e
+    arrives : (r : Request) (judged : Result Asked Refusal) → RequestArrivesOrIsRefused s now i r judged emitted after → length s.links < length after.links
+    arrives r (Ok asked) d = steps_open s (with_changed_connection s i (connection_with_due_answer_used (next.Message r))) _ _ _ [] emitted after refl (λ more. refl) d.1 e
     arrives r (Err refusal) d = refuses _ _ _ d
 
-    by_action : (w : Next Request) → ConnectionIsServed s now i w emitted after → length s.links < length after.links
+    by_action : (w : Next Request) → ConnectionRequestIsServed s now i w emitted after → length s.links < length after.links
     by_action next.More d = absurd d
     by_action next.NeedsContinue d = not_both (forwards emitted) e (ap forwards d.0)
     by_action (next.Message r) d = arrives r d.0 d.2

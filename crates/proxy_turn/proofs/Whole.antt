@@ -3,7 +3,7 @@ use Rattle.std.proofs.Common.{◌≡◌, inl, inr, ℕ, ◌+◌, ◌≤◌, List
 use Rattle.proxy_engine.specs.EngineModel.{EngineModel}
 use Rattle.proxy_engine.specs.Orderly.{ModelIsConsistent, HappeningKeepsModelConsistent}
 use Rattle.proxy_engine.specs.Reading.{end_may_send, failed_links}
-use Rattle.proxy_engine.specs.SendingEnds.{EndHasNumber, SendingEndHasNumber}
+use Rattle.proxy_engine.specs.SendingEnds.{EndWasAcceptedOrOpened, EndWhosePeerMaySendHasNumber}
 use Rattle.proxy_engine.specs.State.{State, EngineRepresents}
 use Rattle.proxy_engine.specs.declared.work.End.{End}
 use Rattle.proxy_engine.specs.declared.work.End.TheVariants as ends
@@ -11,9 +11,9 @@ use Rattle.proxy_turn.specs.Calls.{Call}
 use Rattle.proxy_turn.specs.Counts.{Calls, CallCountsRiseBy}
 use Rattle.proxy_turn.specs.Turn.{count_of_failed_reads, count_of_failed_in_rounds, calls_of_reads, calls_of_rounds}
 use Rattle.proxy_turn.specs.Parts.{EndNumberWasGiven, EndNumbersWereGiven, ActsAreReported, DueActsAreDone}
-use Rattle.proxy_turn.specs.Over.{ends_to_read, calls_of_accepts, calls_of_turn_over_ends, count_of_failed_accept_outcomes, TurnOverEndsIsDoneInOrder, TurnOverEndsIsReported, EngineTurnsOverEndsWithCalls}
-use Rattle.proxy_turn.specs.OverParts.{AcceptsAreReported, ConnectionsAreAccepted, EndsOfListAreRead}
-use Rattle.proxy_turn.specs.declared.bounds.TurnBounds.{TurnBounds}
+use Rattle.proxy_turn.specs.Over.{ends_to_read, calls_of_accepts, calls_of_turn_over_given_ends, count_of_failed_accept_outcomes, TurnOverGivenEndsIsDoneInOrder, TurnOverGivenEndsIsReported, EngineTurnsOverGivenEndsWithCalls}
+use Rattle.proxy_turn.specs.OverParts.{AcceptsMatchResult, ConnectionsAreAccepted, EndsOfListAreRead}
+use Rattle.proxy_turn.specs.declared.bounds.TurnAcceptBounds.{TurnAcceptBounds}
 use Rattle.proxy_turn.specs.declared.report.Report.{Report}
 use Rattle.proxy_turn.specs.declared.report.TurnFault.{TurnFault}
 use Rattle.proxy_turn.specs.declared.report.TurnFault.TheVariants as faults
@@ -22,13 +22,13 @@ use Rattle.proxy_turn.proofs.Called.{Joins, accepted_alone, accepted_read}
 use Rattle.proxy_turn.proofs.Counting.{raises_on, raises_same}
 use Rattle.proxy_turn.proofs.Turning.{reads_orderly}
 
-numbered : (s : EngineModel) (end : End) → EndHasNumber s end → EndNumberWasGiven s end
+numbered : (s : EngineModel) (end : End) → EndWasAcceptedOrOpened s end → EndNumberWasGiven s end
 numbered s ends.Listener there = there
 numbered s (ends.Client n) there = there
 numbered s (ends.Link l) there = there
 
 -- an end that may send is there
-sending_there : SendingEndHasNumber → (s : EngineModel) (es : List End) → EndNumbersWereGiven s (filter (end_may_send s) es)
+sending_there : EndWhosePeerMaySendHasNumber → (s : EngineModel) (es : List End) → EndNumbersWereGiven s (filter (end_may_send s) es)
 sending_there number s [] = tt
 sending_there number s (end ∷ es) = by (end_may_send s end) refl (sending_there number s es)
   where
@@ -40,15 +40,15 @@ sending_there number s (end ∷ es) = by (end_may_send s end) refl (sending_ther
 pub same_list : (t : EngineModel) (es left : List End) (e f : State) (did : List Call → Type 0) (a b : Calls) (result : Result (ℕ × ℕ) TurnFault) → es ≡ left → EndNumbersWereGiven t left → ((s : EngineModel) → EngineRepresents e s → EndNumbersWereGiven s es → EndsOfListAreRead s es f did a b result) → EngineRepresents e t → EndsOfListAreRead t left f did a b result
 same_list t es left e f did a b result is there reads represents = subst (λ (xs : List End). EndsOfListAreRead t xs f did a b result) is (reads t represents (subst (EndNumbersWereGiven t) (sym is) there))
 
-module _ (now : ℕ) (bounds : TurnBounds) (s : EngineModel) (given : List End) (e : State) (more : List End) (did : List Call → Type 0) (a b : Calls) (answer : Result ℕ TurnFault) (first : ConnectionsAreAccepted bounds s given e more did a b answer) (left : List End) (kept : left ≡ filter (end_may_send first.begun) more) where
+module _ (now : ℕ) (bounds : TurnAcceptBounds) (s : EngineModel) (given : List End) (e : State) (more : List End) (did : List Call → Type 0) (a b : Calls) (answer : Result ℕ TurnFault) (first : ConnectionsAreAccepted bounds s given e more did a b answer) (left : List End) (kept : left ≡ filter (end_may_send first.begun) more) where
   listed : left ≡ ends_to_read s given first.accepts first.begun
   listed = kept ∙ ap (λ (es : List End). filter (end_may_send first.begun) es) first.listed
 
-  pub listed_there : SendingEndHasNumber → EndNumbersWereGiven first.begun left
+  pub listed_there : EndWhosePeerMaySendHasNumber → EndNumbersWereGiven first.begun left
   listed_there number = subst (EndNumbersWereGiven first.begun) (sym kept) (sending_there number first.begun more)
 
   -- the listener was the last
-  pub asks_alone : (fault : TurnFault) → answer ≡ Err fault → EngineTurnsOverEndsWithCalls now bounds s given e left did a b (Err fault)
+  pub asks_alone : (fault : TurnFault) → answer ≡ Err fault → EngineTurnsOverGivenEndsWithCalls now bounds s given e left did a b (Err fault)
   asks_alone fault is = record {
     turns = record {
       accepts = first.accepts;
@@ -71,23 +71,23 @@ module _ (now : ℕ) (bounds : TurnBounds) (s : EngineModel) (given : List End) 
       };
       represents = first.represents;
       listed = listed;
-      reports = reports fault (subst (AcceptsAreReported bounds first.accepts first.begun) is first.reports);
+      reports = reports fault (subst (AcceptsMatchResult bounds first.accepts first.begun) is first.reports);
       raises = raises_same a b (length first.accepts) 0 (count_of_failed_accept_outcomes first.accepts) (length first.accepts) 0 (count_of_failed_accept_outcomes first.accepts + (0 + 0)) refl refl (omega arith) first.raises;
     };
     calls = subst did (accepted_alone s first.accepts) first.calls;
   }
     where
-      reports : (fault : TurnFault) → AcceptsAreReported bounds first.accepts first.begun (Err fault) → TurnOverEndsIsReported bounds first.accepts first.begun [] left [] first.begun (Err fault)
+      reports : (fault : TurnFault) → AcceptsMatchResult bounds first.accepts first.begun (Err fault) → TurnOverGivenEndsIsReported bounds first.accepts first.begun [] left [] first.begun (Err fault)
       reports faults.Listener t = (t, refl, refl)
       reports faults.NoMemory t = t
       reports faults.Spent t = absurd t
 
   module _ (accepted : ℕ) (is : answer ≡ Ok accepted) (f : State) (read : List Call → Type 0) (c : Calls) where
-    answered : AcceptsAreReported bounds first.accepts first.begun (Ok accepted)
-    answered = subst (AcceptsAreReported bounds first.accepts first.begun) is first.reports
+    answered : AcceptsMatchResult bounds first.accepts first.begun (Ok accepted)
+    answered = subst (AcceptsMatchResult bounds first.accepts first.begun) is first.reports
 
     -- the ends were the last
-    pub reads_last : (fault : TurnFault) → EndsOfListAreRead first.begun left f read b c (Err fault) → (both : List Call → Type 0) → Joins did read both → EngineTurnsOverEndsWithCalls now bounds s given f left both a c (Err fault)
+    pub reads_last : (fault : TurnFault) → EndsOfListAreRead first.begun left f read b c (Err fault) → (both : List Call → Type 0) → Joins did read both → EngineTurnsOverGivenEndsWithCalls now bounds s given f left both a c (Err fault)
     reads_last fault part both join = record {
       turns = record {
         accepts = first.accepts;
@@ -117,7 +117,7 @@ module _ (now : ℕ) (bounds : TurnBounds) (s : EngineModel) (given : List End) 
       calls = subst both (accepted_read s first.accepts part.reads) (join (calls_of_accepts (length s.connections + 1) first.accepts) (calls_of_reads part.reads) first.calls part.some.calls);
     }
       where
-        reports : (fault : TurnFault) → fault ≡ faults.NoMemory → TurnOverEndsIsReported bounds first.accepts first.begun part.reads part.rest [] part.some.last (Err fault)
+        reports : (fault : TurnFault) → fault ≡ faults.NoMemory → TurnOverGivenEndsIsReported bounds first.accepts first.begun part.reads part.rest [] part.some.last (Err fault)
         reports faults.NoMemory t = answered.1
         reports faults.Listener t = absurd cc
         reports faults.Spent t = absurd cc
@@ -127,7 +127,7 @@ module _ (now : ℕ) (bounds : TurnBounds) (s : EngineModel) (given : List End) 
       read_orderly takes h = reads_orderly takes second.reads first.begun second.some.last second.some.are (accepts_orderly takes bounds.most_open first.accepts s first.begun first.are h)
 
       module _ (g : State) (worked : List Call → Type 0) (d : Calls) where
-        turned : (result : Result (ℕ × ℕ) TurnFault) → (third : DueActsAreDone now second.some.last g worked c d result) → TurnOverEndsIsDoneInOrder now bounds s given first.accepts second.reads second.rest third.rounds third.some.last
+        turned : (result : Result (ℕ × ℕ) TurnFault) → (third : DueActsAreDone now second.some.last g worked c d result) → TurnOverGivenEndsIsDoneInOrder now bounds s given first.accepts second.reads second.rest third.rounds third.some.last
         turned result third = record {
           begun = first.begun;
           read = second.some.last;
@@ -150,12 +150,12 @@ module _ (now : ℕ) (bounds : TurnBounds) (s : EngineModel) (given : List End) 
             (raises_on a c d (length first.accepts + 0) (0 + length second.reads) (count_of_failed_accept_outcomes first.accepts + count_of_failed_reads second.reads) 0 0 (count_of_failed_in_rounds third.rounds)
             (raises_on a b c (length first.accepts) 0 (count_of_failed_accept_outcomes first.accepts) 0 (length second.reads) (count_of_failed_reads second.reads) first.raises second.some.raises) third.some.raises)
 
-        called : (result : Result (ℕ × ℕ) TurnFault) → (third : DueActsAreDone now second.some.last g worked c d result) → (later all : List Call → Type 0) → Joins read worked later → Joins did later all → all (calls_of_turn_over_ends s first.accepts second.reads third.rounds)
+        called : (result : Result (ℕ × ℕ) TurnFault) → (third : DueActsAreDone now second.some.last g worked c d result) → (later all : List Call → Type 0) → Joins read worked later → Joins did later all → all (calls_of_turn_over_given_ends s first.accepts second.reads third.rounds)
         called result third later all join onto =
             onto (calls_of_accepts (length s.connections + 1) first.accepts) (calls_of_reads second.reads ++ calls_of_rounds third.rounds) first.calls (join (calls_of_reads second.reads) (calls_of_rounds third.rounds) second.some.calls third.some.calls)
 
         -- an act was the last
-        pub works_last : (fault : TurnFault) → DueActsAreDone now second.some.last g worked c d (Err fault) → (later all : List Call → Type 0) → Joins read worked later → Joins did later all → EngineTurnsOverEndsWithCalls now bounds s given g left all a d (Err fault)
+        pub works_last : (fault : TurnFault) → DueActsAreDone now second.some.last g worked c d (Err fault) → (later all : List Call → Type 0) → Joins read worked later → Joins did later all → EngineTurnsOverGivenEndsWithCalls now bounds s given g left all a d (Err fault)
         unfolding turned
         works_last fault third later all join onto = record {
           turns = record {
@@ -173,14 +173,14 @@ module _ (now : ℕ) (bounds : TurnBounds) (s : EngineModel) (given : List End) 
           calls = called (Err fault) third later all join onto;
         }
           where
-            reports : (fault : TurnFault) → ActsAreReported third.rounds third.some.last (Err fault) → TurnOverEndsIsReported bounds first.accepts first.begun second.reads second.rest third.rounds third.some.last (Err fault)
+            reports : (fault : TurnFault) → ActsAreReported third.rounds third.some.last (Err fault) → TurnOverGivenEndsIsReported bounds first.accepts first.begun second.reads second.rest third.rounds third.some.last (Err fault)
             reports faults.Listener t = absurd t
             reports faults.NoMemory t = answered.1
             reports faults.Spent t = (answered.1, answered.0, second.reports.0, t)
 
         -- whole
         pub whole : (done : ℕ × ℕ) → (third : DueActsAreDone now second.some.last g worked c d (Ok done)) → (report : Report) → report.accepted ≡ accepted → report.reads ≡ counts.0 → report.works ≡ done.0 → report.faults ≡ counts.1 + done.1 → (later all : List Call → Type 0) → Joins read worked later → Joins did later all
-            → EngineTurnsOverEndsWithCalls now bounds s given g left all a d (Ok report)
+            → EngineTurnsOverGivenEndsWithCalls now bounds s given g left all a d (Ok report)
         unfolding turned
         whole done third report accepted_is reads works faults later all join onto = record {
           turns = record {

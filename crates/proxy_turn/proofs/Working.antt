@@ -5,12 +5,12 @@ use Rattle.std.specs.declared.vec.Vec.{Vec}
 use Rattle.std.specs.declared.alloc.Global.{Global}
 use Rattle.proxy_script.specs.declared.effect_list.Effect.{Effect}
 use Rattle.proxy_engine.specs.EngineModel.{EngineModel}
-use Rattle.proxy_engine.specs.Due.{Act, IsDueFirst}
+use Rattle.proxy_engine.specs.Due.{Act, IsFirstDueAct}
 use Rattle.proxy_engine.specs.Acts.{ActIsDone}
 use Rattle.proxy_engine.specs.Drops.{ActHasFewEffects}
 use Rattle.proxy_engine.specs.Orderly.{ModelIsConsistent, HappeningKeepsModelConsistent, ActKeepsModelConsistent, EndedEndsStayEndedAfterAct}
 use Rattle.proxy_engine.specs.Reading.{failed_links}
-use Rattle.proxy_engine.specs.State.{State, EngineRepresents, FirstDueActWasDone, NoActWasDoneBecauseOf}
+use Rattle.proxy_engine.specs.State.{State, EngineRepresents, FirstDueActIfAnyWasDone, NoActWasDoneBecauseOf}
 use Rattle.proxy_engine.specs.declared.work.End.{End}
 use Rattle.proxy_engine.specs.declared.work.EngineFault.{EngineFault}
 use Rattle.proxy_engine.specs.declared.work.EngineFault.TheVariants as engine
@@ -19,7 +19,7 @@ use Rattle.proxy_engine.specs.declared.work.Work.TheVariants as work
 use Rattle.proxy_turn.specs.Calls.{Call}
 use Rattle.proxy_turn.specs.Counts.{Calls, CallCountsRiseBy}
 use Rattle.proxy_turn.specs.Turn.{ActWithEffectFates, end_of_effect, count_of_failed_effects, count_of_failed_in_rounds, calls_of_effects, calls_of_rounds}
-use Rattle.proxy_turn.specs.Parts.{turn_fault_of_engine_fault, EndNumbersWereGiven, EffectsWereCarriedOut, ActsAreDoneOneAfterAnother, ActsAreReported, DueActsAreDone}
+use Rattle.proxy_turn.specs.Parts.{turn_fault_of_engine_fault, EndNumbersWereGiven, EffectsWereHandled, ActsAreDoneOneAfterAnother, ActsAreReported, DueActsAreDone}
 use Rattle.proxy_turn.specs.declared.report.TurnFault.{TurnFault}
 use Rattle.proxy_turn.specs.declared.report.TurnFault.TheVariants.{NoMemory}
 use Rattle.proxy_turn.proofs.Called.{Joins, worked_one_more}
@@ -39,13 +39,13 @@ pub record SoFar (now : ℕ) (s : EngineModel) (e : State) (gone : List End) (di
 pub record Acted (t : EngineModel) (now : ℕ) (emitted : List Effect) (e : State) : Type 0 where
   pub act : Act
   pub after : EngineModel
-  pub due : IsDueFirst t (Some act)
+  pub due : IsFirstDueAct t (Some act)
   pub does : ActIsDone t now act emitted after
   pub represents : EngineRepresents e after
 
-pub acted : (t : EngineModel) (now : ℕ) (w : Work) (effects : Vec Effect Global) (e : State) → w ≡ work.Did effects → FirstDueActWasDone t now w e → Acted t now effects.items e
+pub acted : (t : EngineModel) (now : ℕ) (w : Work) (effects : Vec Effect Global) (e : State) → w ≡ work.Did effects → FirstDueActIfAnyWasDone t now w e → Acted t now effects.items e
 acted t now w effects e is did =
-    let one = subst (λ (w : Work). FirstDueActWasDone t now w e) is did in
+    let one = subst (λ (w : Work). FirstDueActIfAnyWasDone t now w e) is did in
     record { act = one.0; after = one.2.after; due = one.1; does = one.2.does; represents = one.2.represents }
 
 pub worked_none : (now : ℕ) (s : EngineModel) (e : State) (gone : List End) (did : List Call → Type 0) (here : Calls) → gone ≡ failed_links s → EngineRepresents e s → did [] → SoFar now s e gone did here here 0 0
@@ -69,7 +69,7 @@ module _ (now : ℕ) (s : EngineModel) (e : State) (gone : List End) (did : List
     pub emitted_short : ActHasFewEffects → length emitted ≤ 3
     emitted_short short = (short done.some.last now one.act emitted one.after one.does).0
 
-    pub worked_more : (new : State) (more : List End) (then all : List Call → Type 0) (c : Calls) (count sum : ℕ) → sum ≡ faults + count → count ≤ 3 → EffectsWereCarriedOut one.after gone emitted new more then b c count → Joins did then all
+    pub worked_more : (new : State) (more : List End) (then all : List Call → Type 0) (c : Calls) (count sum : ℕ) → sum ≡ faults + count → count ≤ 3 → EffectsWereHandled one.after gone emitted new more then b c count → Joins did then all
         → SoFar now s new more all a c (works + 1) sum
     worked_more new more then all c count sum is small out join =
         let r : ActWithEffectFates = record { act = one.act; emitted = emitted; fates = out.fates } in
@@ -96,9 +96,9 @@ module _ (now : ℕ) (s : EngineModel) (e : State) (gone : List End) (did : List
     small = let n = done.counted in let few = done.few in omega (arith, n, few, bound)
 
   -- nothing is due
-  pub idle_by : (w : Work) (new : State) (counts : ℕ × ℕ) → w ≡ work.Idle → FirstDueActWasDone done.some.last now w new → counts.0 ≡ works → counts.1 ≡ faults → works ≤ 1000 → DueActsAreDone now s new did a b (Ok counts)
+  pub idle_by : (w : Work) (new : State) (counts : ℕ × ℕ) → w ≡ work.Idle → FirstDueActIfAnyWasDone done.some.last now w new → counts.0 ≡ works → counts.1 ≡ faults → works ≤ 1000 → DueActsAreDone now s new did a b (Ok counts)
   idle_by w new counts is did number more bound =
-      let idle = subst (λ (w : Work). FirstDueActWasDone done.some.last now w new) is did in
+      let idle = subst (λ (w : Work). FirstDueActIfAnyWasDone done.some.last now w new) is did in
       record {
         rounds = done.rounds;
         gone = gone;
@@ -145,8 +145,8 @@ module _ (now : ℕ) (s : EngineModel) (e : State) (gone : List End) (did : List
 pub same_gone : (now : ℕ) (s : EngineModel) (e : State) (gone more : List End) (did : List Call → Type 0) (a b : Calls) (works faults : ℕ) → more ≡ gone → SoFar now s e gone did a b works faults → SoFar now s e more did a b works faults
 same_gone now s e gone more did a b works faults is done = subst (λ (es : List End). SoFar now s e es did a b works faults) (sym is) done
 
-pub same_emitted : (s : EngineModel) (gone : List End) (emitted more : List Effect) (e : State) (later : List End) (did : List Call → Type 0) (a b : Calls) (count : ℕ) → more ≡ emitted → EffectsWereCarriedOut s gone more e later did a b count → EffectsWereCarriedOut s gone emitted e later did a b count
-same_emitted s gone emitted more e later did a b count is out = subst (λ (es : List Effect). EffectsWereCarriedOut s gone es e later did a b count) is out
+pub same_emitted : (s : EngineModel) (gone : List End) (emitted more : List Effect) (e : State) (later : List End) (did : List Call → Type 0) (a b : Calls) (count : ℕ) → more ≡ emitted → EffectsWereHandled s gone more e later did a b count → EffectsWereHandled s gone emitted e later did a b count
+same_emitted s gone emitted more e later did a b count is out = subst (λ (es : List Effect). EffectsWereHandled s gone es e later did a b count) is out
 
 pub same_fault : (now : ℕ) (s : EngineModel) (e : State) (did : List Call → Type 0) (a b : Calls) (fault other : TurnFault) → other ≡ fault → DueActsAreDone now s e did a b (Err fault) → DueActsAreDone now s e did a b (Err other)
 same_fault now s e did a b fault other is all = subst (λ (f : TurnFault). DueActsAreDone now s e did a b (Err f)) (sym is) all

@@ -7,7 +7,7 @@ use Rattle.std.specs.Prelude.{ℕ, List, take, Bool, true, false, Option, Result
 use Rattle.std.specs.declared.net.socket_addr.SocketAddrV4.{SocketAddrV4}
 use Rattle.hx_status.specs.declared.about.ReplyData.{ReplyData}
 use Rattle.proxy_engine.specs.declared.work.End.{End}
-use Rattle.proxy_turn.specs.declared.sockets.SocketFailed.{SocketFailed}
+use Rattle.proxy_turn.specs.declared.sockets.SocketCallFailed.{SocketCallFailed}
 use Rattle.proxy_reads.specs.declared.received.Received.{Received}
 use Rattle.proxy_reads.specs.declared.received.Received.TheVariants as received
 
@@ -28,13 +28,13 @@ pub data Call : Type 0 where
   Connect : (link : ℕ) (address : SocketAddrV4) (done : Bool) → Call
   Shut : (end : End) (done : Bool) → Call
 
-abbrev pub accept_outcome_of : Result Bool SocketFailed → AcceptOutcome
+abbrev pub accept_outcome_of : Result Bool SocketCallFailed → AcceptOutcome
 accept_outcome_of (Ok true) = Came
 accept_outcome_of (Ok false) = NoneCame
 accept_outcome_of (Err failed) = Failed
 
 -- the bytes at the front of the buffer
-abbrev pub read_outcome_of : Result Received SocketFailed → List ℕ → ReadOutcome
+abbrev pub read_outcome_of : Result Received SocketCallFailed → List ℕ → ReadOutcome
 read_outcome_of (Ok received.Nothing) buf = Nothing
 read_outcome_of (Ok (received.Bytes n)) buf = Bytes (take n buf)
 read_outcome_of (Ok received.End) buf = Ended

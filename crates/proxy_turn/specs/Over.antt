@@ -2,16 +2,18 @@
 -- ends that it reads, and the acts that it does. Reads, acts and their effects are those of `Turn`.
 --
 -- may_accept_more, AcceptsAreTaken: the calls of accept
--- NoMoreIsAccepted, LastAcceptOutcomeIs: how they end
+-- AcceptsAreComplete, LastAcceptOutcomeIs: how they end
 -- accepted_ends, ends_to_read: the ends of the connections that came, and those of all that are read
--- calls_of_turn_over_ends: the calls of a turn, in order
--- TurnOverEndsIsDoneInOrder: a turn, whole or as far as it came            TurnOverEndsIsReported: what it answers
--- EngineTurnsOverEnds: both                                                EngineTurnsOverEndsWithCalls: with its calls
+-- calls_of_turn_over_given_ends: the calls of a turn, in order
+-- TurnOverGivenEndsIsDoneInOrder: a turn, whole or as far as it came            TurnOverGivenEndsIsReported: what it
+-- answers
+-- EngineTurnsOverGivenEnds: both                                                EngineTurnsOverGivenEndsWithCalls: with
+-- its calls
 use Rattle.std.specs.Prelude.{◌≡◌, ℕ, ◌+◌, ◌≤◌, List, [], ◌∷◌, ◌++◌, length, filter, sum_by, Bool, true, false, ◌&&◌}
 use Rattle.std.specs.Prelude.{nat_lt, Option, None, Some, is_some, Result, Ok, Err, ◌⊎◌}
 use Rattle.proxy_engine.specs.Happenings.{HappeningModel, Accepts}
 use Rattle.proxy_engine.specs.EngineModel.{EngineModel}
-use Rattle.proxy_engine.specs.Due.{IsDueFirst}
+use Rattle.proxy_engine.specs.Due.{IsFirstDueAct}
 use Rattle.proxy_engine.specs.Reading.{end_may_send, failed_links, open_connection_count, next_connection_number}
 use Rattle.proxy_engine.specs.State.{State, EngineRepresents, NoActWasDoneBecauseOf as EngineFailed}
 use Rattle.proxy_engine.specs.declared.work.EngineFault.TheVariants as engine
@@ -21,9 +23,9 @@ use Rattle.proxy_turn.specs.Calls as call
 use Rattle.proxy_turn.specs.Calls.{Call, AcceptOutcome, Came, NoneCame, Failed}
 use Rattle.proxy_turn.specs.Counts.{Calls, CallCountsRiseBy}
 use Rattle.proxy_turn.specs.Turn.{HappeningIfAnyIsTaken, EndRead, ReadsAreTaken, ends_of_reads, ActWithEffectFates}
-use Rattle.proxy_turn.specs.Turn.{ActsAreCarriedOut, calls_of_reads, calls_of_rounds, count_of_failed_reads}
+use Rattle.proxy_turn.specs.Turn.{ActsAreDoneWithEffectFates, calls_of_reads, calls_of_rounds, count_of_failed_reads}
 use Rattle.proxy_turn.specs.Turn.{count_of_failed_in_rounds}
-use Rattle.proxy_turn.specs.declared.bounds.TurnBounds.{TurnBounds}
+use Rattle.proxy_turn.specs.declared.bounds.TurnAcceptBounds.{TurnAcceptBounds}
 use Rattle.proxy_turn.specs.declared.report.Report.{Report}
 use Rattle.proxy_turn.specs.declared.report.TurnFault.{TurnFault}
 use Rattle.proxy_turn.specs.declared.report.TurnFault.TheVariants as faults
@@ -54,8 +56,8 @@ abbrev pub LastAcceptOutcomeIs : AcceptOutcome → List AcceptOutcome → Type 0
 LastAcceptOutcomeIs a accepts = (front : List AcceptOutcome) × (accepts ≡ front ++ a ∷ [])
 
 -- No call was left out: as many were made as there may be, or no other may be made, or none waited.
-abbrev pub NoMoreIsAccepted : TurnBounds → List AcceptOutcome → EngineModel → Type 0
-NoMoreIsAccepted bounds accepts begun =
+abbrev pub AcceptsAreComplete : TurnAcceptBounds → List AcceptOutcome → EngineModel → Type 0
+AcceptsAreComplete bounds accepts begun =
     (length accepts ≡ bounds.most_accepts) ⊎ ((may_accept_more bounds.most_open begun ≡ false)
     ⊎ LastAcceptOutcomeIs NoneCame accepts)
 
@@ -85,9 +87,9 @@ calls_of_accepts n [] = []
 calls_of_accepts n (a ∷ more) = call.Accept n a ∷ calls_of_accepts (n + 1) more
 
 -- all of a turn, in order
-abbrev pub calls_of_turn_over_ends : EngineModel → List AcceptOutcome → List EndRead → List ActWithEffectFates
+abbrev pub calls_of_turn_over_given_ends : EngineModel → List AcceptOutcome → List EndRead → List ActWithEffectFates
     → List Call
-calls_of_turn_over_ends s accepts reads rounds =
+calls_of_turn_over_given_ends s accepts reads rounds =
     calls_of_accepts (length s.connections + 1) accepts ++ (calls_of_reads reads ++ calls_of_rounds rounds)
 
 -- ---- counts
@@ -112,7 +114,7 @@ count_of_failed_accept_outcomes accepts = sum_by count_of_failed_accept_outcome 
 
 -- As far as it came: calls of accept, one read of each end from which bytes may come, in order, but for the rest, and
 -- then acts.
-pub record TurnOverEndsIsDoneInOrder (now : ℕ) (bounds : TurnBounds) (s : EngineModel) (given : List End)
+pub record TurnOverGivenEndsIsDoneInOrder (now : ℕ) (bounds : TurnAcceptBounds) (s : EngineModel) (given : List End)
     (accepts : List AcceptOutcome) (reads : List EndRead) (rest : List End) (rounds : List ActWithEffectFates)
     (t : EngineModel) : Type 0 where
   pub begun : EngineModel
@@ -122,59 +124,62 @@ pub record TurnOverEndsIsDoneInOrder (now : ℕ) (bounds : TurnBounds) (s : Engi
   pub accepts_are : AcceptsAreTaken bounds.most_open s accepts begun
   pub ends : ends_of_reads reads ++ rest ≡ ends_to_read s given accepts begun
   pub reads_are : ReadsAreTaken begun reads read
-  pub works : ActsAreCarriedOut now read (failed_links read) rounds t gone
+  pub works : ActsAreDoneWithEffectFates now read (failed_links read) rounds t gone
   pub bound : length rounds ≤ 1000
-  pub accepts_come_first : NoMoreIsAccepted bounds accepts begun ⊎ ((reads ≡ []) × (rounds ≡ []))
+  pub accepts_come_first : AcceptsAreComplete bounds accepts begun ⊎ ((reads ≡ []) × (rounds ≡ []))
   pub reads_come_before_acts : (rest ≡ []) ⊎ (rounds ≡ [])
 
 -- nothing was left out, and this was counted
-pub record TurnOverEndsIsWholeAndCounted (bounds : TurnBounds) (accepts : List AcceptOutcome) (begun : EngineModel)
+pub record TurnOverGivenEndsIsWholeAndCounted (bounds : TurnAcceptBounds) (accepts : List AcceptOutcome)
+    (begun : EngineModel)
     (reads : List EndRead) (rest : List End) (rounds : List ActWithEffectFates)
     (t : EngineModel) (report : Report) : Type 0 where
-  pub accepts_are : NoMoreIsAccepted bounds accepts begun
+  pub accepts_are : AcceptsAreComplete bounds accepts begun
   pub unbroken : count_of_failed_accept_outcomes accepts ≡ 0
   pub rest_is : rest ≡ []
-  pub worked : (length rounds ≡ 1000) ⊎ IsDueFirst t None
+  pub worked : (length rounds ≡ 1000) ⊎ IsFirstDueAct t None
   pub accepted : report.accepted ≡ count_of_accepted_connections accepts
   pub reads_are : report.reads ≡ length reads
   pub works : report.works ≡ length rounds
   pub faults : report.faults ≡ count_of_failed_reads reads + count_of_failed_in_rounds rounds
 
 -- what a turn answers, whose calls of accept led to `begun`
-abbrev pub TurnOverEndsIsReported : TurnBounds → List AcceptOutcome → EngineModel → List EndRead → List End
+abbrev pub TurnOverGivenEndsIsReported : TurnAcceptBounds → List AcceptOutcome → EngineModel → List EndRead → List End
     → List ActWithEffectFates
     → EngineModel
     → Result Report TurnFault
     → Type 0
-TurnOverEndsIsReported bounds accepts begun reads rest rounds t (Ok report) =
-    TurnOverEndsIsWholeAndCounted bounds accepts begun reads rest rounds t report
-TurnOverEndsIsReported bounds accepts begun reads rest rounds t (Err faults.Listener) =
+TurnOverGivenEndsIsReported bounds accepts begun reads rest rounds t (Ok report) =
+    TurnOverGivenEndsIsWholeAndCounted bounds accepts begun reads rest rounds t report
+TurnOverGivenEndsIsReported bounds accepts begun reads rest rounds t (Err faults.Listener) =
     LastAcceptOutcomeIs Failed accepts × (reads ≡ []) × (rounds ≡ [])
-TurnOverEndsIsReported bounds accepts begun reads rest rounds t (Err faults.NoMemory) =
+TurnOverGivenEndsIsReported bounds accepts begun reads rest rounds t (Err faults.NoMemory) =
     count_of_failed_accept_outcomes accepts ≡ 0
-TurnOverEndsIsReported bounds accepts begun reads rest rounds t (Err faults.Spent) =
-    (count_of_failed_accept_outcomes accepts ≡ 0) × NoMoreIsAccepted bounds accepts begun × (rest ≡ [])
+TurnOverGivenEndsIsReported bounds accepts begun reads rest rounds t (Err faults.Spent) =
+    (count_of_failed_accept_outcomes accepts ≡ 0) × AcceptsAreComplete bounds accepts begun × (rest ≡ [])
     × EngineFailed t engine.Spent
 
 -- A turn of an engine over the ends that are given, with how the counts of calls rose. What is left of the ends are
 -- those from which bytes might come before the reads.
-pub record EngineTurnsOverEnds (now : ℕ) (bounds : TurnBounds) (s : EngineModel) (given : List End) (e : State)
+pub record EngineTurnsOverGivenEnds (now : ℕ) (bounds : TurnAcceptBounds) (s : EngineModel) (given : List End)
+    (e : State)
     (left : List End) (before after : Calls) (result : Result Report TurnFault) : Type 0 where
   pub accepts : List AcceptOutcome
   pub reads : List EndRead
   pub rest : List End
   pub rounds : List ActWithEffectFates
   pub last : EngineModel
-  pub turn : TurnOverEndsIsDoneInOrder now bounds s given accepts reads rest rounds last
+  pub turn : TurnOverGivenEndsIsDoneInOrder now bounds s given accepts reads rest rounds last
   pub represents : EngineRepresents e last
   pub listed : left ≡ ends_to_read s given accepts turn.begun
-  pub reports : TurnOverEndsIsReported bounds accepts turn.begun reads rest rounds last result
+  pub reports : TurnOverGivenEndsIsReported bounds accepts turn.begun reads rest rounds last result
   pub raises : CallCountsRiseBy before after (length accepts) (length reads)
       (count_of_failed_accept_outcomes accepts + (count_of_failed_reads reads + count_of_failed_in_rounds rounds))
 
 -- A turn of an engine, and its calls: `did` says that just these were made on the sockets.
-pub record EngineTurnsOverEndsWithCalls (now : ℕ) (bounds : TurnBounds) (s : EngineModel) (given : List End) (e : State)
+pub record EngineTurnsOverGivenEndsWithCalls (now : ℕ) (bounds : TurnAcceptBounds) (s : EngineModel) (given : List End)
+    (e : State)
     (left : List End) (did : List Call → Type 0) (before after : Calls)
     (result : Result Report TurnFault) : Type 0 where
-  pub turns : EngineTurnsOverEnds now bounds s given e left before after result
-  pub calls : did (calls_of_turn_over_ends s turns.accepts turns.reads turns.rounds)
+  pub turns : EngineTurnsOverGivenEnds now bounds s given e left before after result
+  pub calls : did (calls_of_turn_over_given_ends s turns.accepts turns.reads turns.rounds)

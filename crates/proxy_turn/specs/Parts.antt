@@ -3,8 +3,9 @@ use Rattle.std.specs.Prelude.{◌≡◌, ℕ, ◌≤◌, List, [], ◌∷◌, le
 use Rattle.hx_status.specs.declared.cause.FailKind.{FailKind}
 use Rattle.proxy_script.specs.declared.effect_list.Effect.{Effect}
 use Rattle.proxy_engine.specs.Happenings.{HappeningModel}
-use Rattle.proxy_engine.specs.EngineModel.{EngineModel, happening_fault, connection_fault, link_number_fault}
-use Rattle.proxy_engine.specs.Due.{IsDueFirst}
+use Rattle.proxy_engine.specs.EngineModel.{EngineModel, happening_fault, fault_of_unknown_connection}
+use Rattle.proxy_engine.specs.EngineModel.{fault_of_unknown_link}
+use Rattle.proxy_engine.specs.Due.{IsFirstDueAct}
 use Rattle.proxy_engine.specs.Reading.{failed_links}
 use Rattle.proxy_engine.specs.Room.{HappeningFindsMemory}
 use Rattle.proxy_engine.specs.State.{State, EngineRepresents, NoActWasDoneBecauseOf as EngineFailed}
@@ -16,10 +17,10 @@ use Rattle.proxy_turn.specs.Calls as call
 use Rattle.proxy_turn.specs.Calls.{Call}
 use Rattle.proxy_turn.specs.Counts.{Calls, CallCountsRiseBy}
 use Rattle.proxy_turn.specs.Turn.{HappeningIfAnyIsTaken, ReadOutcome, IsAtMostOnePiece, happening_of_read}
-use Rattle.proxy_turn.specs.Turn.{count_of_failed_read, EndRead, ReadsAreTaken}
-use Rattle.proxy_turn.specs.Turn.{count_of_failed_reads, EffectFate, Carried, Lost, EffectIsCarriedOut}
-use Rattle.proxy_turn.specs.Turn.{EffectsAreCarriedOut, count_of_failed_effect}
-use Rattle.proxy_turn.specs.Turn.{count_of_failed_effects, ActWithEffectFates, ActsAreCarriedOut}
+use Rattle.proxy_turn.specs.Turn.{one_if_read_failed, EndRead, ReadsAreTaken}
+use Rattle.proxy_turn.specs.Turn.{count_of_failed_reads, EffectFate, Carried, Lost, EffectIsHandledWithFate}
+use Rattle.proxy_turn.specs.Turn.{EffectsAreHandledWithFates, one_if_effect_failed}
+use Rattle.proxy_turn.specs.Turn.{count_of_failed_effects, ActWithEffectFates, ActsAreDoneWithEffectFates}
 use Rattle.proxy_turn.specs.Turn.{count_of_failed_in_rounds}
 use Rattle.proxy_turn.specs.Turn.{calls_of_reads, calls_of_effect}
 use Rattle.proxy_turn.specs.Turn.{calls_of_effects, calls_of_rounds}
@@ -37,8 +38,8 @@ turn_fault_of_engine_fault engine.Spent = faults.Spent
 -- the number was given
 abbrev pub EndNumberWasGiven : EngineModel → End → Type 0
 EndNumberWasGiven s ends.Listener = Unit {0}
-EndNumberWasGiven s (ends.Client n) = connection_fault (length s.connections) n ≡ None
-EndNumberWasGiven s (ends.Link l) = link_number_fault s.first (length s.links) l ≡ None
+EndNumberWasGiven s (ends.Client n) = fault_of_unknown_connection (length s.connections) n ≡ None
+EndNumberWasGiven s (ends.Link l) = fault_of_unknown_link s.first (length s.links) l ≡ None
 
 abbrev pub EndNumbersWereGiven : EngineModel → List End → Type 0
 EndNumbersWereGiven s [] = Unit {0}
@@ -66,11 +67,11 @@ pub record OneEndIsRead (s : EngineModel) (end : End) (e : State) (did : List Ca
   pub took : HappeningIfAnyWasTaken s (happening_of_read end given) e
   pub piece : IsAtMostOnePiece given
   pub calls : did (call.Read end given ∷ [])
-  pub counted : count ≡ count_of_failed_read given
-  pub raises : CallCountsRiseBy before after 0 1 (count_of_failed_read given)
+  pub counted : count ≡ one_if_read_failed given
+  pub raises : CallCountsRiseBy before after 0 1 (one_if_read_failed given)
 
 -- no call was made
-pub record NoEndIsRead (s : EngineModel) (e : State) (did : List Call → Type 0) (before after : Calls)
+pub record OutOfMemoryBeforeRead (s : EngineModel) (e : State) (did : List Call → Type 0) (before after : Calls)
     (fault : TurnFault) : Type 0 where
   pub fault_is : fault ≡ faults.NoMemory
   pub represents : EngineRepresents e s
@@ -86,10 +87,10 @@ pub record EndsAreReadOnceEach (s : EngineModel) (reads : List EndRead) (e : Sta
   pub calls : did (calls_of_reads reads)
   pub raises : CallCountsRiseBy before after 0 (length reads) (count_of_failed_reads reads)
 
-abbrev pub ReadsAreReported : List EndRead → List End → Result (ℕ × ℕ) TurnFault → Type 0
-ReadsAreReported reads rest (Ok counts) = (rest ≡ []) × (counts.0 ≡ length reads)
+abbrev pub ReadCountsAreReported : List EndRead → List End → Result (ℕ × ℕ) TurnFault → Type 0
+ReadCountsAreReported reads rest (Ok counts) = (rest ≡ []) × (counts.0 ≡ length reads)
     × (counts.1 ≡ count_of_failed_reads reads)
-ReadsAreReported reads rest (Err fault) = fault ≡ faults.NoMemory
+ReadCountsAreReported reads rest (Err fault) = fault ≡ faults.NoMemory
 
 -- what became of an effect whose calls answered this
 abbrev pub fate_of_effect_result : Result (Unit {0}) FailKind → EffectFate
@@ -97,22 +98,22 @@ fate_of_effect_result (Ok done) = Carried
 fate_of_effect_result (Err kind) = Lost kind
 
 -- an effect was carried out, or not, and so many calls failed
-pub record EffectWasCarriedOut (s : EngineModel) (gone : List End) (effect : Effect) (e : State) (more : List End)
+pub record EffectWasHandled (s : EngineModel) (gone : List End) (effect : Effect) (e : State) (more : List End)
     (did : List Call → Type 0) (before after : Calls) (count : ℕ) : Type 0 where
   pub fate : EffectFate
   pub last : EngineModel
-  pub carries : EffectIsCarriedOut s gone effect fate last more
+  pub carries : EffectIsHandledWithFate s gone effect fate last more
   pub represents : EngineRepresents e last
-  pub counted : count ≡ count_of_failed_effect fate
+  pub counted : count ≡ one_if_effect_failed fate
   pub calls : did (calls_of_effect effect fate)
-  pub raises : CallCountsRiseBy before after 0 0 (count_of_failed_effect fate)
+  pub raises : CallCountsRiseBy before after 0 0 (one_if_effect_failed fate)
 
-pub record EffectsWereCarriedOut (s : EngineModel) (gone : List End) (emitted : List Effect) (e : State)
+pub record EffectsWereHandled (s : EngineModel) (gone : List End) (emitted : List Effect) (e : State)
     (more : List End)
     (did : List Call → Type 0) (before after : Calls) (count : ℕ) : Type 0 where
   pub fates : List EffectFate
   pub last : EngineModel
-  pub carries : EffectsAreCarriedOut s gone emitted fates last more
+  pub carries : EffectsAreHandledWithFates s gone emitted fates last more
   pub represents : EngineRepresents e last
   pub counted : count ≡ count_of_failed_effects fates
   pub calls : did (calls_of_effects emitted fates)
@@ -123,14 +124,14 @@ pub record ActsAreDoneOneAfterAnother (now : ℕ) (s : EngineModel) (rounds : Li
     (gone : List End)
     (did : List Call → Type 0) (before after : Calls) : Type 0 where
   pub last : EngineModel
-  pub works : ActsAreCarriedOut now s (failed_links s) rounds last gone
+  pub works : ActsAreDoneWithEffectFates now s (failed_links s) rounds last gone
   pub represents : EngineRepresents e last
   pub calls : did (calls_of_rounds rounds)
   pub raises : CallCountsRiseBy before after 0 0 (count_of_failed_in_rounds rounds)
 
 abbrev pub ActsAreReported : List ActWithEffectFates → EngineModel → Result (ℕ × ℕ) TurnFault → Type 0
 ActsAreReported rounds t (Ok counts) =
-    ((length rounds ≡ 1000) ⊎ IsDueFirst t None) × (counts.0 ≡ length rounds) ×
+    ((length rounds ≡ 1000) ⊎ IsFirstDueAct t None) × (counts.0 ≡ length rounds) ×
     (counts.1 ≡ count_of_failed_in_rounds rounds)
 ActsAreReported rounds t (Err faults.Listener) = ⊥
 ActsAreReported rounds t (Err faults.NoMemory) = Unit {0}

@@ -3,7 +3,8 @@
 -- initial_model_of, EngineLivedThroughSteps: what an engine has lived through, by these steps
 -- EngineIsReachable: the same by some steps      EngineHasServedAGoodRun: they are a good run, with the headline
 -- ModelLeadsToEngine, EngineContinues: what it lived through since
--- steps_taking_happenings, IsLossOfAnEnd, EndLossesAreTaken, EngineTakesEndLosses: ends that were lost, or are to end
+-- steps_taking_happenings, IsLossTimeoutOrRetirement, EndLossesAreTaken, EngineTakesEndLosses: ends that were lost, or
+-- are to end
 -- TurnIsServedAfterEndLosses, steps_of_served_turn: a turn behind them, and its steps
 -- NewEngineIsReachable and what follows it: the laws
 use Rattle.std.specs.Prelude.{◌≡◌, ℕ, List, [], ◌∷◌, ◌++◌, Result}
@@ -19,9 +20,9 @@ use Rattle.proxy_engine.specs.Executions.{ExecutionStep, Took, StepsLeadToModel,
 use Rattle.proxy_engine.specs.State.{State, EngineRepresents, EngineTakesHappening}
 use Rattle.proxy_engine.specs.declared.work.End.{End}
 use Rattle.proxy_turn.specs.Counts.{Calls}
-use Rattle.proxy_turn.specs.Over.{EngineTurnsOverEnds}
-use Rattle.proxy_turn.specs.OverSteps.{steps_of_turn_over_ends}
-use Rattle.proxy_turn.specs.declared.bounds.TurnBounds.{TurnBounds}
+use Rattle.proxy_turn.specs.Over.{EngineTurnsOverGivenEnds}
+use Rattle.proxy_turn.specs.OverSteps.{steps_of_turn_over_given_ends}
+use Rattle.proxy_turn.specs.declared.bounds.TurnAcceptBounds.{TurnAcceptBounds}
 use Rattle.proxy_turn.specs.declared.report.Report.{Report}
 use Rattle.proxy_turn.specs.declared.report.TurnFault.{TurnFault}
 
@@ -81,16 +82,16 @@ EngineContinues e new = (s : EngineModel) → EngineRepresents e s → ModelIsCo
 -- ---- a turn of a server
 
 -- a client went away, is to end, or has waited as long as it is to wait, or a link failed
-abbrev pub IsLossOfAnEnd : HappeningModel → Type 0
-IsLossOfAnEnd (Accepts n) = ⊥
-IsLossOfAnEnd (Sends n bytes) = ⊥
-IsLossOfAnEnd (Hears l bytes) = ⊥
-IsLossOfAnEnd (Ends n) = ⊥
-IsLossOfAnEnd (Leaves n) = Unit {0}
-IsLossOfAnEnd (Retires n) = Unit {0}
-IsLossOfAnEnd (Overdues n) = Unit {0}
-IsLossOfAnEnd (Shuts l) = ⊥
-IsLossOfAnEnd (Fails l kind) = Unit {0}
+abbrev pub IsLossTimeoutOrRetirement : HappeningModel → Type 0
+IsLossTimeoutOrRetirement (Accepts n) = ⊥
+IsLossTimeoutOrRetirement (Sends n bytes) = ⊥
+IsLossTimeoutOrRetirement (Hears l bytes) = ⊥
+IsLossTimeoutOrRetirement (Ends n) = ⊥
+IsLossTimeoutOrRetirement (Leaves n) = Unit {0}
+IsLossTimeoutOrRetirement (Retires n) = Unit {0}
+IsLossTimeoutOrRetirement (Overdues n) = Unit {0}
+IsLossTimeoutOrRetirement (Shuts l) = ⊥
+IsLossTimeoutOrRetirement (Fails l kind) = Unit {0}
 
 -- these happenings are taken, one after another
 abbrev pub steps_taking_happenings : List HappeningModel → List ExecutionStep → List ExecutionStep
@@ -101,7 +102,7 @@ steps_taking_happenings (h ∷ hs) past = steps_taking_happenings hs (Took h ∷
 -- and nothing else was taken or done
 pub record EndLossesAreTaken (s : EngineModel) (e : State) : Type 0 where
   pub lost : List HappeningModel
-  pub are_losses : AllByRecursion IsLossOfAnEnd lost
+  pub are_losses : AllByRecursion IsLossTimeoutOrRetirement lost
   pub after : EngineModel
   pub takes : StepsLeadToModel s (steps_taking_happenings lost []) after
   pub represents : EngineRepresents e after
@@ -112,28 +113,28 @@ EngineTakesEndLosses e new = (s : EngineModel) → EngineRepresents e s → EndL
 
 -- Ends that were lost were taken as such, and then one turn was served at this moment, within these bounds and over
 -- some ends, which told this. Nothing else was taken or done.
-pub record TurnIsServedAfterEndLosses (now : ℕ) (bounds : TurnBounds) (s : EngineModel) (e : State)
+pub record TurnIsServedAfterEndLosses (now : ℕ) (bounds : TurnAcceptBounds) (s : EngineModel) (e : State)
     (reported : Result Report TurnFault) : Type 0 where
   pub lost : List HappeningModel
-  pub are_losses : AllByRecursion IsLossOfAnEnd lost
+  pub are_losses : AllByRecursion IsLossTimeoutOrRetirement lost
   pub mid : EngineModel
   pub takes : StepsLeadToModel s (steps_taking_happenings lost []) mid
   pub given : List End
   pub left : List End
   pub before : Calls
   pub after : Calls
-  pub turn : EngineTurnsOverEnds now bounds mid given e left before after reported
+  pub turn : EngineTurnsOverGivenEnds now bounds mid given e left before after reported
 
 -- its steps, behind those before it
-abbrev pub steps_of_served_turn : {now : ℕ} {bounds : TurnBounds} {s : EngineModel} {e : State}
+abbrev pub steps_of_served_turn : {now : ℕ} {bounds : TurnAcceptBounds} {s : EngineModel} {e : State}
     {reported : Result Report TurnFault}
     → TurnIsServedAfterEndLosses now bounds s e reported → List ExecutionStep → List ExecutionStep
 steps_of_served_turn {now} served past =
-    steps_of_turn_over_ends now served.mid served.turn.accepts served.turn.reads served.turn.rounds
+    steps_of_turn_over_given_ends now served.mid served.turn.accepts served.turn.reads served.turn.rounds
     (steps_taking_happenings served.lost past)
 
 -- each orderly model that the engine stood for leads by such a turn to one that it stands for now
-abbrev pub EngineServesTurn : ℕ → TurnBounds → State → State → Result Report TurnFault → Type 0
+abbrev pub EngineServesTurn : ℕ → TurnAcceptBounds → State → State → Result Report TurnFault → Type 0
 EngineServesTurn now bounds e new reported = (s : EngineModel) → EngineRepresents e s → ModelIsConsistent s
     → TurnIsServedAfterEndLosses now bounds s new reported
 
@@ -162,7 +163,7 @@ EngineContinuesByHappening = (e new : State) (h : HappeningModel) → ((s : Engi
 
 -- it serves a turn, whole or as far as it came, behind what was lost
 abbrev pub EngineContinuesByTurn : Type 0
-EngineContinuesByTurn = (e new : State) (now : ℕ) (bounds : TurnBounds) (reported : Result Report TurnFault)
+EngineContinuesByTurn = (e new : State) (now : ℕ) (bounds : TurnAcceptBounds) (reported : Result Report TurnFault)
     → EngineServesTurn now bounds e new reported → EngineContinues e new
 
 -- what it has lived through since it began, under one table
@@ -177,7 +178,8 @@ abbrev pub EndLossesMayBeNone : Type 0
 EndLossesMayBeNone = (e : State) → EngineTakesEndLosses e e
 
 abbrev pub OneEndLossIsTaken : Type 0
-OneEndLossIsTaken = (e new : State) (h : HappeningModel) → IsLossOfAnEnd h → ((s : EngineModel) → EngineRepresents e s
+OneEndLossIsTaken = (e new : State) (h : HappeningModel) → IsLossTimeoutOrRetirement h
+    → ((s : EngineModel) → EngineRepresents e s
     → EngineTakesHappening s h new) → EngineTakesEndLosses e new
 
 abbrev pub EndLossesAreTakenTransitively : Type 0
@@ -202,17 +204,17 @@ EngineContinuesByEndLosses = (e new : State) → EngineTakesEndLosses e new → 
 -- behind them a turn is served
 abbrev pub TurnIsServedByEndLossesAndTurn : Type 0
 TurnIsServedByEndLossesAndTurn =
-    (e mid new : State) (now : ℕ) (bounds : TurnBounds) (given left : List End) (before after : Calls)
+    (e mid new : State) (now : ℕ) (bounds : TurnAcceptBounds) (given left : List End) (before after : Calls)
     (reported : Result Report TurnFault) → EngineTakesEndLosses e mid
     → ((s : EngineModel) → EngineRepresents mid s → ModelIsConsistent s
-    → EngineTurnsOverEnds now bounds s given new left before after reported)
+    → EngineTurnsOverGivenEnds now bounds s given new left before after reported)
     → EngineServesTurn now bounds e new reported
 
 -- Where an engine has lived by these steps, it has lived behind a turn by those of the turn behind them, and no others.
 abbrev pub TurnExecutesItsSteps : Type 0
 TurnExecutesItsSteps =
     (e new : State) (held : List Stored) (first link : ℕ) (steps : List ExecutionStep) (s : EngineModel) (now : ℕ)
-    (bounds : TurnBounds) (reported : Result Report TurnFault)
+    (bounds : TurnAcceptBounds) (reported : Result Report TurnFault)
     → EngineLivedThroughSteps e held first link steps s
     → (served : TurnIsServedAfterEndLosses now bounds s new reported)
     → EngineLivedThroughSteps new held first link (steps_of_served_turn served steps) served.turn.last

@@ -1,10 +1,10 @@
 -- What a turn does with an engine: the happenings that it takes and the acts that it does, over the models of the
 -- engine.
 --
--- AcceptCall, may_accept_below_256: the call of accept
+-- AcceptOutcomeIfCalled, may_accept_below_256: the call of accept
 -- ReadOutcome, EndRead, ReadsAreTaken: reads, and what each gave, as a happening
--- EffectFate, EffectIsCarriedOut, EffectsAreCarriedOut: what became of the effects of an act
--- ActWithEffectFates, ActsAreCarriedOut: acts with their effects
+-- EffectFate, EffectIsHandledWithFate, EffectsAreHandledWithFates: what became of the effects of an act
+-- ActWithEffectFates, ActsAreDoneWithEffectFates: acts with their effects
 -- calls_of_turn: the calls of a turn, in order       TurnIsDoneInOrder: a turn, whole or as far as it came
 -- TurnIsReported: what it answers      EngineTurnIsServed: both      EngineTurnsWithCalls: with its calls
 use Rattle.std.specs.Prelude.{◌≡◌, ℕ, ◌+◌, ◌≤◌, List, [], ◌∷◌, ◌++◌, length, sum_by, map, Bool, true, false, ◌&&◌, ◌==◌}
@@ -17,7 +17,7 @@ use Rattle.proxy_script.specs.declared.effect_list.Effect.{Effect}
 use Rattle.proxy_script.specs.declared.effect_list.Effect.TheVariants as effects
 use Rattle.proxy_engine.specs.Happenings.{HappeningModel, Accepts, Sends, Hears, Ends, Leaves, Shuts, Fails}
 use Rattle.proxy_engine.specs.EngineModel.{EngineModel, model_after_happening, happening_fault}
-use Rattle.proxy_engine.specs.Due.{Act, IsDueFirst}
+use Rattle.proxy_engine.specs.Due.{Act, IsFirstDueAct}
 use Rattle.proxy_engine.specs.Acts.{ActIsDone}
 use Rattle.proxy_engine.specs.Reading.{readable_ends_of, failed_links, open_connection_count, next_connection_number}
 use Rattle.proxy_engine.specs.State.{State, EngineRepresents, NoActWasDoneBecauseOf as EngineFailed}
@@ -40,20 +40,20 @@ HappeningIfAnyIsTaken s (Some h) t = (happening_fault s h ≡ None) × (t ≡ mo
 -- ---- the listener
 
 -- accept wasn't called, failed, had no connection, or gave one
-pub data AcceptCall : Type 0 where
-  NotAsked Failed NoneCame Came : AcceptCall
+pub data AcceptOutcomeIfCalled : Type 0 where
+  NotAsked Failed NoneCame Came : AcceptOutcomeIfCalled
 
 -- where fewer than 256 connections are open, and a number is left
 abbrev pub may_accept_below_256 : EngineModel → Bool
 may_accept_below_256 s = nat_lt (open_connection_count s) 256 && is_some (next_connection_number s)
 
-abbrev pub accept_was_called : AcceptCall → Bool
+abbrev pub accept_was_called : AcceptOutcomeIfCalled → Bool
 accept_was_called NotAsked = false
 accept_was_called Failed = true
 accept_was_called NoneCame = true
 accept_was_called Came = true
 
-abbrev pub happening_of_accept : EngineModel → AcceptCall → Option HappeningModel
+abbrev pub happening_of_accept : EngineModel → AcceptOutcomeIfCalled → Option HappeningModel
 happening_of_accept s NotAsked = None
 happening_of_accept s Failed = None
 happening_of_accept s NoneCame = None
@@ -66,10 +66,10 @@ happening_of_bytes ends.Listener bytes = None
 happening_of_bytes (ends.Client n) bytes = Some (Sends n bytes)
 happening_of_bytes (ends.Link l) bytes = Some (Hears l bytes)
 
-abbrev pub happening_of_end : End → Option HappeningModel
-happening_of_end ends.Listener = None
-happening_of_end (ends.Client n) = Some (Ends n)
-happening_of_end (ends.Link l) = Some (Shuts l)
+abbrev pub happening_of_input_end : End → Option HappeningModel
+happening_of_input_end ends.Listener = None
+happening_of_input_end (ends.Client n) = Some (Ends n)
+happening_of_input_end (ends.Link l) = Some (Shuts l)
 
 abbrev pub happening_of_loss : End → FailKind → Option HappeningModel
 happening_of_loss ends.Listener kind = None
@@ -87,7 +87,7 @@ IsAtMostOnePiece (Bytes bytes) = length bytes ≤ 4096
 
 abbrev pub happening_of_read : End → ReadOutcome → Option HappeningModel
 happening_of_read end Nothing = None
-happening_of_read end Ended = happening_of_end end
+happening_of_read end Ended = happening_of_input_end end
 happening_of_read end Broken = happening_of_loss end kinds.Closed
 happening_of_read end (Bytes bytes) = happening_of_bytes end bytes
 
@@ -134,29 +134,32 @@ end_of_effect (effects.Forward l address bytes) = ends.Link l
 end_of_effect (effects.Drop l) = ends.Link l
 
 -- A link that can't be opened counts as refused by the origin, a write that fails as its closing.
-abbrev pub EffectFailureCountsAs : Effect → FailKind → Type 0
-EffectFailureCountsAs (effects.Client n bytes replied) kind = kind ≡ kinds.Closed
-EffectFailureCountsAs (effects.Close n) kind = kind ≡ kinds.Closed
-EffectFailureCountsAs (effects.Forward l address bytes) kind = (kind ≡ kinds.Refused) ⊎ (kind ≡ kinds.Closed)
-EffectFailureCountsAs (effects.Drop l) kind = kind ≡ kinds.Closed
+abbrev pub FailedEffectHasFailKind : Effect → FailKind → Type 0
+FailedEffectHasFailKind (effects.Client n bytes replied) kind = kind ≡ kinds.Closed
+FailedEffectHasFailKind (effects.Close n) kind = kind ≡ kinds.Closed
+FailedEffectHasFailKind (effects.Forward l address bytes) kind = (kind ≡ kinds.Refused) ⊎ (kind ≡ kinds.Closed)
+FailedEffectHasFailKind (effects.Drop l) kind = kind ≡ kinds.Closed
 
 -- No call is made on an end on which one has failed before. A loss is taken at once.
-abbrev pub EffectIsCarriedOut : EngineModel → List End → Effect → EffectFate → EngineModel → List End → Type 0
-EffectIsCarriedOut s gone e Carried t more = (end_has_failed gone (end_of_effect e) ≡ false) × (t ≡ s) × (more ≡ gone)
-EffectIsCarriedOut s gone e Passed t more = (end_has_failed gone (end_of_effect e) ≡ true) × (t ≡ s) × (more ≡ gone)
-EffectIsCarriedOut s gone e (Lost kind) t more =
-    (end_has_failed gone (end_of_effect e) ≡ false) × EffectFailureCountsAs e kind × HappeningIfAnyIsTaken s
+abbrev pub EffectIsHandledWithFate : EngineModel → List End → Effect → EffectFate → EngineModel → List End → Type 0
+EffectIsHandledWithFate s gone e Carried t more =
+    (end_has_failed gone (end_of_effect e) ≡ false) × (t ≡ s) × (more ≡ gone)
+EffectIsHandledWithFate s gone e Passed t more =
+    (end_has_failed gone (end_of_effect e) ≡ true) × (t ≡ s) × (more ≡ gone)
+EffectIsHandledWithFate s gone e (Lost kind) t more =
+    (end_has_failed gone (end_of_effect e) ≡ false) × FailedEffectHasFailKind e kind × HappeningIfAnyIsTaken s
     (happening_of_loss (end_of_effect e) kind) t
     × (more ≡ gone ++ end_of_effect e ∷ [])
 
 -- effects, one after another
-abbrev pub EffectsAreCarriedOut : EngineModel → List End → List Effect → List EffectFate → EngineModel → List End
+abbrev pub EffectsAreHandledWithFates : EngineModel → List End → List Effect → List EffectFate → EngineModel → List End
     → Type 0
-EffectsAreCarriedOut s gone [] [] t more = (t ≡ s) × (more ≡ gone)
-EffectsAreCarriedOut s gone [] (f ∷ fs) t more = ⊥
-EffectsAreCarriedOut s gone (e ∷ es) [] t more = ⊥
-EffectsAreCarriedOut s gone (e ∷ es) (f ∷ fs) t more =
-    (after : EngineModel) × (then : List End) × EffectIsCarriedOut s gone e f after then × EffectsAreCarriedOut after
+EffectsAreHandledWithFates s gone [] [] t more = (t ≡ s) × (more ≡ gone)
+EffectsAreHandledWithFates s gone [] (f ∷ fs) t more = ⊥
+EffectsAreHandledWithFates s gone (e ∷ es) [] t more = ⊥
+EffectsAreHandledWithFates s gone (e ∷ es) (f ∷ fs) t more =
+    (after : EngineModel) × (then : List End)
+    × EffectIsHandledWithFate s gone e f after then × EffectsAreHandledWithFates after
     then es fs t more
 
 -- ---- acts
@@ -168,18 +171,19 @@ pub record ActWithEffectFates : Type 0 where
   pub fates : List EffectFate
 
 -- each act is the first that was due, and its effects are carried out before the next
-abbrev pub ActsAreCarriedOut : ℕ → EngineModel → List End → List ActWithEffectFates → EngineModel → List End → Type 0
-ActsAreCarriedOut now s gone [] t more = (t ≡ s) × (more ≡ gone)
-ActsAreCarriedOut now s gone (r ∷ rs) t more =
+abbrev pub ActsAreDoneWithEffectFates : ℕ → EngineModel → List End → List ActWithEffectFates → EngineModel → List End
+    → Type 0
+ActsAreDoneWithEffectFates now s gone [] t more = (t ≡ s) × (more ≡ gone)
+ActsAreDoneWithEffectFates now s gone (r ∷ rs) t more =
     (done : EngineModel) × (after : EngineModel) × (then : List End)
-    × IsDueFirst s (Some r.act) × ActIsDone s now r.act r.emitted done
-    × EffectsAreCarriedOut done gone r.emitted r.fates after then
-    × ActsAreCarriedOut now after then rs t more
+    × IsFirstDueAct s (Some r.act) × ActIsDone s now r.act r.emitted done
+    × EffectsAreHandledWithFates done gone r.emitted r.fates after then
+    × ActsAreDoneWithEffectFates now after then rs t more
 
 -- ---- calls
 
 -- for a connection of the next number
-abbrev pub calls_of_accept : EngineModel → AcceptCall → List Call
+abbrev pub calls_of_accept : EngineModel → AcceptOutcomeIfCalled → List Call
 calls_of_accept s NotAsked = []
 calls_of_accept s Failed = call.Accept (length s.connections + 1) call.Failed ∷ []
 calls_of_accept s NoneCame = call.Accept (length s.connections + 1) call.NoneCame ∷ []
@@ -218,42 +222,42 @@ calls_of_rounds [] = []
 calls_of_rounds (r ∷ rs) = calls_of_effects r.emitted r.fates ++ calls_of_rounds rs
 
 -- all of a turn, in order
-abbrev pub calls_of_turn : EngineModel → AcceptCall → List EndRead → List ActWithEffectFates → List Call
+abbrev pub calls_of_turn : EngineModel → AcceptOutcomeIfCalled → List EndRead → List ActWithEffectFates → List Call
 calls_of_turn s asked reads rounds = calls_of_accept s asked ++ (calls_of_reads reads ++ calls_of_rounds rounds)
 
 -- ---- counts
 
-abbrev pub count_of_accept_calls : AcceptCall → ℕ
+abbrev pub count_of_accept_calls : AcceptOutcomeIfCalled → ℕ
 count_of_accept_calls asked = cond (accept_was_called asked) 1 0
 
-abbrev pub count_of_accepted : AcceptCall → ℕ
-count_of_accepted NotAsked = 0
-count_of_accepted Failed = 0
-count_of_accepted NoneCame = 0
-count_of_accepted Came = 1
+abbrev pub count_of_accepted_if_called : AcceptOutcomeIfCalled → ℕ
+count_of_accepted_if_called NotAsked = 0
+count_of_accepted_if_called Failed = 0
+count_of_accepted_if_called NoneCame = 0
+count_of_accepted_if_called Came = 1
 
-abbrev pub count_of_failed_accepts : AcceptCall → ℕ
+abbrev pub count_of_failed_accepts : AcceptOutcomeIfCalled → ℕ
 count_of_failed_accepts NotAsked = 0
 count_of_failed_accepts Failed = 1
 count_of_failed_accepts NoneCame = 0
 count_of_failed_accepts Came = 0
 
-abbrev pub count_of_failed_read : ReadOutcome → ℕ
-count_of_failed_read Nothing = 0
-count_of_failed_read Ended = 0
-count_of_failed_read Broken = 1
-count_of_failed_read (Bytes bytes) = 0
+abbrev pub one_if_read_failed : ReadOutcome → ℕ
+one_if_read_failed Nothing = 0
+one_if_read_failed Ended = 0
+one_if_read_failed Broken = 1
+one_if_read_failed (Bytes bytes) = 0
 
-abbrev pub count_of_failed_effect : EffectFate → ℕ
-count_of_failed_effect Carried = 0
-count_of_failed_effect Passed = 0
-count_of_failed_effect (Lost kind) = 1
+abbrev pub one_if_effect_failed : EffectFate → ℕ
+one_if_effect_failed Carried = 0
+one_if_effect_failed Passed = 0
+one_if_effect_failed (Lost kind) = 1
 
 abbrev pub count_of_failed_reads : List EndRead → ℕ
-count_of_failed_reads reads = sum_by (λ (r : EndRead). count_of_failed_read r.given) reads
+count_of_failed_reads reads = sum_by (λ (r : EndRead). one_if_read_failed r.given) reads
 
 abbrev pub count_of_failed_effects : List EffectFate → ℕ
-count_of_failed_effects fates = sum_by count_of_failed_effect fates
+count_of_failed_effects fates = sum_by one_if_effect_failed fates
 
 abbrev pub count_of_failed_in_rounds : List ActWithEffectFates → ℕ
 count_of_failed_in_rounds rounds = sum_by (λ (r : ActWithEffectFates). count_of_failed_effects r.fates) rounds
@@ -261,7 +265,8 @@ count_of_failed_in_rounds rounds = sum_by (λ (r : ActWithEffectFates). count_of
 -- ---- a turn
 
 -- As far as it came: accept, one read of each end from which bytes may come, in order, but for the rest, and then acts.
-pub record TurnIsDoneInOrder (now : ℕ) (s : EngineModel) (asked : AcceptCall) (reads : List EndRead) (rest : List End)
+pub record TurnIsDoneInOrder (now : ℕ) (s : EngineModel) (asked : AcceptOutcomeIfCalled) (reads : List EndRead)
+    (rest : List End)
     (rounds : List ActWithEffectFates) (t : EngineModel) : Type 0 where
   pub begun : EngineModel
   pub read : EngineModel
@@ -270,25 +275,27 @@ pub record TurnIsDoneInOrder (now : ℕ) (s : EngineModel) (asked : AcceptCall) 
   pub accepts : HappeningIfAnyIsTaken s (happening_of_accept s asked) begun
   pub ends : ends_of_reads reads ++ rest ≡ readable_ends_of begun
   pub reads_are : ReadsAreTaken begun reads read
-  pub works : ActsAreCarriedOut now read (failed_links read) rounds t gone
+  pub works : ActsAreDoneWithEffectFates now read (failed_links read) rounds t gone
   pub bound : length rounds ≤ 1000
   pub behind : rest ≡ [] ⊎ rounds ≡ []
 
 -- nothing was left out, and this was counted
-pub record TurnIsWholeAndCounted (s : EngineModel) (asked : AcceptCall) (reads : List EndRead) (rest : List End)
+pub record TurnIsWholeAndCounted (s : EngineModel) (asked : AcceptOutcomeIfCalled) (reads : List EndRead)
+    (rest : List End)
     (rounds : List ActWithEffectFates)
     (t : EngineModel) (report : Report) : Type 0 where
   pub asked_is : accept_was_called asked ≡ may_accept_below_256 s
   pub unbroken : count_of_failed_accepts asked ≡ 0
   pub rest_is : rest ≡ []
-  pub worked : (length rounds ≡ 1000) ⊎ IsDueFirst t None
-  pub accepted : report.accepted ≡ count_of_accepted asked
+  pub worked : (length rounds ≡ 1000) ⊎ IsFirstDueAct t None
+  pub accepted : report.accepted ≡ count_of_accepted_if_called asked
   pub reads_are : report.reads ≡ length reads
   pub works : report.works ≡ length rounds
   pub faults : report.faults ≡ count_of_failed_reads reads + count_of_failed_in_rounds rounds
 
 -- what a turn answers
-abbrev pub TurnIsReported : EngineModel → AcceptCall → List EndRead → List End → List ActWithEffectFates → EngineModel
+abbrev pub TurnIsReported : EngineModel → AcceptOutcomeIfCalled → List EndRead → List End → List ActWithEffectFates
+    → EngineModel
     → Result Report TurnFault
     → Type 0
 TurnIsReported s asked reads rest rounds t (Ok report) = TurnIsWholeAndCounted s asked reads rest rounds t report
@@ -301,7 +308,7 @@ TurnIsReported s asked reads rest rounds t (Err faults.Spent) =
 -- a turn of an engine, with how the counts of calls rose
 pub record EngineTurnIsServed (now : ℕ) (s : EngineModel) (e : State) (before after : Calls)
     (result : Result Report TurnFault) : Type 0 where
-  pub asked : AcceptCall
+  pub asked : AcceptOutcomeIfCalled
   pub reads : List EndRead
   pub rest : List End
   pub rounds : List ActWithEffectFates

@@ -11,7 +11,8 @@ use Rattle.proxy_engine.specs.Happenings.{HappeningModel}
 use Rattle.proxy_engine.specs.EngineModel.{EngineModel}
 use Rattle.proxy_engine.specs.Executions.{ExecutionStep, Took, Worked, StepsLeadToModel, effects_of_steps}
 use Rattle.proxy_engine.specs.declared.work.End.{End}
-use Rattle.proxy_turn.specs.Turn.{AcceptCall, happening_of_accept, EndRead, happening_of_read, happening_of_loss}
+use Rattle.proxy_turn.specs.Turn.{AcceptOutcomeIfCalled, happening_of_accept, EndRead, happening_of_read}
+use Rattle.proxy_turn.specs.Turn.{happening_of_loss}
 use Rattle.proxy_turn.specs.Turn.{EffectFate, Carried, Passed, Lost, end_of_effect, ActWithEffectFates}
 use Rattle.proxy_turn.specs.Turn.{TurnIsDoneInOrder}
 
@@ -41,7 +42,8 @@ steps_of_rounds now (r ∷ rs) past = steps_of_rounds now rs (steps_of_lost_ends
     (Worked now r.act r.emitted ∷ past))
 
 -- a turn at this moment, from this model: the connection that came, what each read gave, and the acts
-abbrev pub steps_of_turn : ℕ → EngineModel → AcceptCall → List EndRead → List ActWithEffectFates → List ExecutionStep
+abbrev pub steps_of_turn : ℕ → EngineModel → AcceptOutcomeIfCalled → List EndRead → List ActWithEffectFates
+    → List ExecutionStep
     → List ExecutionStep
 steps_of_turn now s asked reads rounds past = steps_of_rounds now rounds
     (steps_of_reads reads (step_of_happening_if_any (happening_of_accept s asked) past))
@@ -55,7 +57,7 @@ effects_of_rounds (r ∷ rs) = r.emitted ++ effects_of_rounds rs
 -- over what an engine lives through speaks of the bytes that a turn read and wrote.
 abbrev pub TurnStepsAreExecuted : Type 0
 TurnStepsAreExecuted =
-    (begin : EngineModel) (past : List ExecutionStep) (now : ℕ) (s : EngineModel) (asked : AcceptCall)
+    (begin : EngineModel) (past : List ExecutionStep) (now : ℕ) (s : EngineModel) (asked : AcceptOutcomeIfCalled)
     (reads : List EndRead)
     (rest : List End) (rounds : List ActWithEffectFates) (t : EngineModel) → StepsLeadToModel begin past s
     → TurnIsDoneInOrder now s asked reads rest rounds t
@@ -64,6 +66,6 @@ TurnStepsAreExecuted =
 -- the effects of its steps are those of its acts, behind those before
 abbrev pub TurnStepsEmitTheirEffects : Type 0
 TurnStepsEmitTheirEffects =
-    (past : List ExecutionStep) (now : ℕ) (s : EngineModel) (asked : AcceptCall) (reads : List EndRead)
+    (past : List ExecutionStep) (now : ℕ) (s : EngineModel) (asked : AcceptOutcomeIfCalled) (reads : List EndRead)
     (rounds : List ActWithEffectFates)
     → effects_of_steps (steps_of_turn now s asked reads rounds past) ≡ effects_of_steps past ++ effects_of_rounds rounds

@@ -2,7 +2,7 @@
 
 /// The bounds of the connections that a turn accepts.
 #[derive(Clone, Copy, PartialEq, Eq)]
-pub struct TurnBounds {
+pub struct TurnAcceptBounds {
     /// How many connections may be open. While as many are, no other is asked for.
     pub most_open: usize,
     /// How often a turn asks for a connection.

@@ -1,7 +1,7 @@
 //! Copies of what is told of a reply, for a log of calls.
 ghost use Rattle.std.specs.Prelude.{◌≡◌, IfOk, option_copied};
 
-use hx_status::{AskedTarget, Question, ReplyData};
+use hx_status::{AskedTarget, MethodAndTarget, ReplyData};
 use std::alloc::{AllocError, Global};
 
 fn copy_target(alloc: Global, target: &AskedTarget) -> Result<AskedTarget, AllocError>
@@ -13,11 +13,14 @@ fn copy_target(alloc: Global, target: &AskedTarget) -> Result<AskedTarget, Alloc
     }
 }
 
-fn copy_question(alloc: Global, question: Option<&Question>) -> Result<Option<Question>, AllocError>
+fn copy_question(
+    alloc: Global,
+    question: Option<&MethodAndTarget>,
+) -> Result<Option<MethodAndTarget>, AllocError>
     ensures { IfOk result (λ copied. copied ≡ option_copied question.entry) }
 {
     match question {
-        Some(question) => Ok(Some(Question {
+        Some(question) => Ok(Some(MethodAndTarget {
             method: question.method.clone()?,
             target: copy_target(alloc, &question.target)?,
         })),
@@ -26,7 +29,7 @@ fn copy_question(alloc: Global, question: Option<&Question>) -> Result<Option<Qu
 }
 
 /// What is told of a reply, once more. Its only error is out of memory.
-pub(crate) fn copy_replied(
+pub(crate) fn copy_reply_data(
     alloc: Global,
     replied: Option<&ReplyData>,
 ) -> Result<Option<ReplyData>, AllocError>

@@ -8,11 +8,11 @@ ghost use Rattle.proxy_engine.specs.Happenings.{model_of_happening};
 ghost use Rattle.proxy_engine.specs.EngineModel.{EngineModel};
 ghost use Rattle.proxy_engine.specs.State.{EngineRepresents};
 ghost use Rattle.proxy_turn.specs.Counts.{CountRisesBy, calls, failed};
-ghost use Rattle.proxy_turn.specs.Turn.{end_of_effect, end_has_failed, EffectFailureCountsAs, calls_of_effect};
+ghost use Rattle.proxy_turn.specs.Turn.{end_of_effect, end_has_failed, FailedEffectHasFailKind, calls_of_effect};
 ghost use Rattle.proxy_turn.specs.Parts.{HappeningIfAnyWasTaken, HappeningCanBeTaken, HappeningIfAnyFindsMemory};
 ghost use Rattle.proxy_turn.specs.Parts.{EndNumberWasGiven, EndNumbersWereGiven, fate_of_effect_result};
-ghost use Rattle.proxy_turn.specs.Parts.{EffectWasCarriedOut};
-ghost use Rattle.proxy_turn.specs.Parts.{EffectsWereCarriedOut};
+ghost use Rattle.proxy_turn.specs.Parts.{EffectWasHandled};
+ghost use Rattle.proxy_turn.specs.Parts.{EffectsWereHandled};
 
 use crate::happenings::happening_of_lost_end;
 use crate::report::TurnFault;
@@ -88,7 +88,7 @@ fn open<K: Sockets>(
 /// Makes the calls of an effect. The error says as what a failed call on a link counts.
 fn call<K: Sockets>(sockets: &mut K, effect: &Effect) -> Result<(), FailKind>
     ensures did { K.Did sockets.old (calls_of_effect effect.now (fate_of_effect_result result)) sockets.new }
-    ensures kinds { IfErr result (EffectFailureCountsAs effect.now) }
+    ensures kinds { IfErr result (FailedEffectHasFailKind effect.now) }
     ensures accepts { K.accepts sockets.new ≡ K.accepts sockets.old }
     ensures reads { K.reads sockets.new ≡ K.reads sockets.old }
     ensures failures { CountRisesBy (K.failures sockets.old) (K.failures sockets.new) (failed result) }
@@ -120,7 +120,7 @@ fn carry_out_effect<S: Shelf, K: Sockets>(
 ) -> Result<u64, TurnFault>
     ensures ok { IfOk result (λ count. (s : EngineModel) → EngineRepresents engine.old s → EndNumberWasGiven s
         (end_of_effect effect.now)
-        → EffectWasCarriedOut s failed.old.items effect.now engine.new failed.new.items
+        → EffectWasHandled s failed.old.items effect.now engine.new failed.new.items
         (λ made. K.Did sockets.old made sockets.new)
         (calls (K.accepts sockets.old) (K.reads sockets.old) (K.failures sockets.old))
         (calls (K.accepts sockets.new) (K.reads sockets.new) (K.failures sockets.new)) count) }
@@ -155,7 +155,7 @@ pub(crate) fn carry_out<S: Shelf, K: Sockets>(
 ) -> Result<u64, TurnFault>
     ensures ok { IfOk result (λ count. (s : EngineModel) → EngineRepresents engine.old s → EndNumbersWereGiven s
         (map end_of_effect effects.now)
-        → EffectsWereCarriedOut s failed.old.items effects.now engine.new failed.new.items
+        → EffectsWereHandled s failed.old.items effects.now engine.new failed.new.items
         (λ made. K.Did sockets.old made sockets.new)
         (calls (K.accepts sockets.old) (K.reads sockets.old) (K.failures sockets.old))
         (calls (K.accepts sockets.new) (K.reads sockets.new) (K.failures sockets.new)) count) }

@@ -3,15 +3,16 @@
 ghost use Rattle.std.specs.Prelude.{◌≡◌, option_map};
 ghost use Rattle.proxy_engine.specs.Happenings.{model_of_happening};
 ghost use Rattle.proxy_turn.specs.Calls.{read_outcome_of};
-ghost use Rattle.proxy_turn.specs.Turn.{happening_of_bytes, happening_of_end, happening_of_loss, happening_of_read};
+ghost use Rattle.proxy_turn.specs.Turn.{happening_of_bytes, happening_of_input_end, happening_of_loss};
+ghost use Rattle.proxy_turn.specs.Turn.{happening_of_read};
 
-use crate::sockets::SocketFailed;
+use crate::sockets::SocketCallFailed;
 use hx_status::FailKind;
 use proxy_engine::{End, Happening};
 use proxy_reads::Received;
 
 /// Bytes came from an end.
-pub fn happening_of_bytes_from(end: End, bytes: &[u8]) -> Option<Happening<'_>>
+pub fn happening_of_bytes_read_from_end(end: End, bytes: &[u8]) -> Option<Happening<'_>>
     ensures { option_map model_of_happening result ≡ happening_of_bytes end bytes.now }
 {
     match end {
@@ -23,7 +24,7 @@ pub fn happening_of_bytes_from(end: End, bytes: &[u8]) -> Option<Happening<'_>>
 
 /// No more comes from an end.
 pub fn happening_of_end_of_input(end: End) -> Option<Happening<'static>>
-    ensures { option_map model_of_happening result ≡ happening_of_end end }
+    ensures { option_map model_of_happening result ≡ happening_of_input_end end }
 {
     match end {
         End::Listener => None,
@@ -46,14 +47,17 @@ pub fn happening_of_lost_end(end: End, kind: FailKind) -> Option<Happening<'stat
 /// What a read of an end comes to: the bytes are those at the front of the buffer. A failed read loses the end.
 pub fn happening_of_read<'a>(
     end: End,
-    received: &Result<Received, SocketFailed>,
+    received: &Result<Received, SocketCallFailed>,
     buf: &'a [u8],
 ) -> Option<Happening<'a>>
     ensures { option_map model_of_happening result ≡ happening_of_read end (read_outcome_of received.now buf.now) }
 {
     match received {
         Ok(Received::Nothing) => None,
-        Ok(Received::Bytes(n)) => happening_of_bytes_from(end, buf.get(..*n).unwrap_or(buf)),
+        Ok(Received::Bytes(n)) => happening_of_bytes_read_from_end(
+            end,
+            buf.get(..*n).unwrap_or(buf),
+        ),
         Ok(Received::End) => happening_of_end_of_input(end),
         Err(_) => happening_of_lost_end(end, FailKind::Closed),
     }

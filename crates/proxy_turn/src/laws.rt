@@ -1,6 +1,6 @@
 //! Laws on the definitions that the contracts cite.
 ghost use Rattle.proxy_turn.specs.TurnSteps.{TurnStepsAreExecuted, TurnStepsEmitTheirEffects};
-ghost use Rattle.proxy_turn.specs.OverSteps.{TurnOverEndsStepsAreExecuted, TurnOverEndsStepsEmitTheirEffects};
+ghost use Rattle.proxy_turn.specs.OverSteps.{TurnOverGivenEndsStepsAreExecuted, TurnOverGivenEndsStepsEmitTheirEffects};
 ghost use Rattle.proxy_turn.specs.Served.{EndLossesMayBeNone, OneEndLossIsTaken, EndLossesAreTakenTransitively};
 ghost use Rattle.proxy_turn.specs.Served.{EndLossesAreTakenInOrder, EndLossesKeepModelConsistent};
 ghost use Rattle.proxy_turn.specs.Served.{EngineContinuesByEndLosses, TurnIsServedByEndLossesAndTurn};
@@ -11,9 +11,9 @@ ghost use Rattle.proxy_turn.specs.Served.{ReachableEngineHasServedAGoodRun, Turn
 ghost use Rattle.proxy_turn.specs.Served.{ExecutedEngineHasServedAGoodRun};
 ghost use Rattle.proxy_turn.specs.Served.{EngineKeepsItsTable};
 
-pub use crate::over_cases::{a_turn_over_ends_refuses_what_is_not_done, worked_accepts};
+pub use crate::over_cases::{no_turn_over_given_ends_breaks_its_order, worked_accepts};
 pub use crate::turn_cases::{
-    a_turn_refuses_what_is_not_done, worked_calls_of_effects, worked_happenings_of_reads,
+    no_turn_breaks_its_order_or_bounds, worked_calls_of_effects, worked_happenings_of_reads,
     worked_order_of_steps,
 };
 use proxy_engine::laws::{core_steps_of_executions_are_good_runs, effects_name_open_ends};
@@ -26,8 +26,8 @@ use proxy_engine::laws::{core_steps_of_executions_are_good_runs, effects_name_op
 pub fn turns_execute_their_steps()
     ensures executed { TurnStepsAreExecuted }
     ensures reports { TurnStepsEmitTheirEffects }
-    ensures over { TurnOverEndsStepsAreExecuted }
-    ensures over_reports { TurnOverEndsStepsEmitTheirEffects }
+    ensures over { TurnOverGivenEndsStepsAreExecuted }
+    ensures over_reports { TurnOverGivenEndsStepsEmitTheirEffects }
 {}
 
 /// Ends that are lost between two turns are taken, one after another; after them a turn is served.

@@ -19,14 +19,15 @@ mod sockets;
 mod turn_cases;
 mod turns;
 
-pub use crate::bounds::TurnBounds;
+pub use crate::bounds::TurnAcceptBounds;
 pub use crate::happenings::{
-    happening_of_bytes_from, happening_of_end_of_input, happening_of_lost_end, happening_of_read,
+    happening_of_bytes_read_from_end, happening_of_end_of_input, happening_of_lost_end,
+    happening_of_read,
 };
 pub use crate::limits::MOST_ACTS_OF_A_TURN;
 pub use crate::logged::{LoggedCall, LoggedReadOutcome, LoggedSockets, turn_with_call_log};
 pub use crate::report::{Report, TurnFault};
-pub use crate::sockets::{SocketFailed, Sockets};
-pub use crate::turns::{turn, turn_over_ends, turn_with_buffer};
+pub use crate::sockets::{SocketCallFailed, Sockets};
+pub use crate::turns::{turn, turn_over_given_ends, turn_with_buffer};
 pub use proxy_engine::End;
 pub use proxy_reads::{PIECE, Received};

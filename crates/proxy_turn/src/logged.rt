@@ -1,18 +1,19 @@
 //! Sockets that keep a log of the calls made on them: what contracts say of calls, seen at run time.
 ghost use Rattle.std.specs.Prelude.{◌≡◌, ◌<◌, [], ◌∷◌, ◌++◌, map, false, IfOk, option_copied};
-ghost use Rattle.hx_fields.specs.declared.limits.TheConstants.{END_OF_TIME};
+ghost use Rattle.hx_fields.specs.declared.limits.TheConstants.{START_OF_YEAR_10000};
 ghost use Rattle.proxy_engine.specs.EngineModel.{EngineModel};
 ghost use Rattle.proxy_engine.specs.State.{EngineRepresents};
 ghost use Rattle.proxy_engine.specs.Orderly.{ModelIsConsistent};
 ghost use Rattle.proxy_turn.specs.Calls as call;
 ghost use Rattle.proxy_turn.specs.Calls.{read_outcome_of};
-ghost use Rattle.proxy_turn.specs.Logs.{logged_call, LogGrewByCalls, log_grew_by_no_call, log_growths_concatenate};
+ghost use Rattle.proxy_turn.specs.Logs.{model_of_logged_call, LogGrewByCalls, log_grew_by_no_call};
+ghost use Rattle.proxy_turn.specs.Logs.{log_growths_concatenate};
 ghost use Rattle.proxy_turn.specs.Counts.{calls};
 ghost use Rattle.proxy_turn.specs.Turn.{EngineTurnsWithCalls};
 
-use crate::copies::copy_replied;
+use crate::copies::copy_reply_data;
 use crate::report::{Report, TurnFault};
-use crate::sockets::{SocketFailed, Sockets};
+use crate::sockets::{SocketCallFailed, Sockets};
 use crate::turns::turn;
 use hx_fields::Bytes;
 use hx_status::ReplyData;
@@ -35,7 +36,7 @@ pub enum LoggedReadOutcome {
 /// and a shut says that it didn't fail.
 #[derive(Drop)]
 pub enum LoggedCall {
-    Accept(u64, Result<bool, SocketFailed>),
+    Accept(u64, Result<bool, SocketCallFailed>),
     Read(End, LoggedReadOutcome),
     Write(End, Bytes, Option<ReplyData>, bool),
     Connect(u64, SocketAddrV4, bool),
@@ -51,10 +52,10 @@ fn write_call(
     done: bool,
 ) -> Result<LoggedCall, AllocError>
     ensures { IfOk result
-        (λ it. logged_call it ≡ call.Write end bytes.now (option_copied replied.entry) done) }
+        (λ it. model_of_logged_call it ≡ call.Write end bytes.now (option_copied replied.entry) done) }
 {
     let bytes = Bytes::copy_of(alloc, bytes)?;
-    let replied = copy_replied(alloc, replied)?;
+    let replied = copy_reply_data(alloc, replied)?;
     Ok(LoggedCall::Write(end, bytes, replied, done))
 }
 
@@ -88,7 +89,7 @@ impl<K: Sockets + Drop> LoggedSockets<K> {
     }
 
     /// Whether a call isn't in the log, because memory ran out.
-    pub fn has_lost(&self) -> bool
+    pub fn has_unlogged_calls(&self) -> bool
         ensures { result ≡ self.now.lost }
     {
         self.lost
@@ -97,14 +98,14 @@ impl<K: Sockets + Drop> LoggedSockets<K> {
     fn keep_call(&mut self, it: LoggedCall)
         ensures sockets { self.new.sockets ≡ self.old.sockets }
         ensures kept { LogGrewByCalls self.old.lost self.old.calls.items self.new.lost self.new.calls.items
-            (logged_call it ∷ []) }
+            (model_of_logged_call it ∷ []) }
     {
         if self.calls.push(it).is_err() {
             self.lost = true;
         }
     }
 
-    fn keep_read(&mut self, end: End, received: &Result<Received, SocketFailed>, buf: &[u8])
+    fn keep_read(&mut self, end: End, received: &Result<Received, SocketCallFailed>, buf: &[u8])
         ensures sockets { self.new.sockets ≡ self.old.sockets }
         ensures kept { LogGrewByCalls self.old.lost self.old.calls.items self.new.lost self.new.calls.items
             (call.Read end (read_outcome_of received.now buf.now) ∷ []) }
@@ -153,13 +154,13 @@ impl<K: Sockets + Drop> Sockets for LoggedSockets<K> {
     ghost joined = { λ s t u a b first then.
         log_growths_concatenate s.lost s.calls.items t.lost t.calls.items u.lost u.calls.items a b first then };
 
-    fn accept(&mut self, n: u64) -> Result<bool, SocketFailed> {
+    fn accept(&mut self, n: u64) -> Result<bool, SocketCallFailed> {
         let came = self.sockets.accept(n);
         self.keep_call(LoggedCall::Accept(n, came));
         came
     }
 
-    fn read(&mut self, end: End, buf: &mut [u8]) -> Result<Received, SocketFailed> {
+    fn read(&mut self, end: End, buf: &mut [u8]) -> Result<Received, SocketCallFailed> {
         let received = self.sockets.read(end, buf);
         self.keep_read(end, &received, buf);
         received
@@ -170,19 +171,19 @@ impl<K: Sockets + Drop> Sockets for LoggedSockets<K> {
         end: End,
         bytes: &[u8],
         replied: Option<&ReplyData>,
-    ) -> Result<(), SocketFailed> {
+    ) -> Result<(), SocketCallFailed> {
         let written = self.sockets.write(end, bytes, replied);
         self.keep_write(end, bytes, replied, written.is_ok());
         written
     }
 
-    fn connect(&mut self, link: u64, address: SocketAddrV4) -> Result<(), SocketFailed> {
+    fn connect(&mut self, link: u64, address: SocketAddrV4) -> Result<(), SocketCallFailed> {
         let connected = self.sockets.connect(link, address);
         self.keep_call(LoggedCall::Connect(link, address, connected.is_ok()));
         connected
     }
 
-    fn shut(&mut self, end: End) -> Result<(), SocketFailed> {
+    fn shut(&mut self, end: End) -> Result<(), SocketCallFailed> {
         let shut = self.sockets.shut(end);
         self.keep_call(LoggedCall::Shut(end, shut.is_ok()));
         shut
@@ -196,7 +197,7 @@ pub fn turn_with_call_log<S: Shelf, K: Sockets + Drop>(
     alloc: Global,
     now: u64,
 ) -> Result<Report, TurnFault>
-    requires { now < END_OF_TIME }
+    requires { now < START_OF_YEAR_10000 }
     ensures { (s : EngineModel) → EngineRepresents engine.old s → ModelIsConsistent s
         → EngineTurnsWithCalls now s engine.new
         (λ made. LogGrewByCalls sockets.old.lost sockets.old.calls.items sockets.new.lost sockets.new.calls.items made)

@@ -15,9 +15,9 @@ ghost use Rattle.proxy_turn.specs.OverCases.{NoAcceptAfterNoConnectionCame};
 ghost use Rattle.proxy_turn.specs.OverCases.{NoUnreadableEndIsRead, NoEndIsReadTwice, NoHandedInEndIsSkipped};
 ghost use Rattle.proxy_turn.specs.OverCases.{NoAcceptedEndIsSkipped, NoReadBeforeTheAccepts, NoActBeforeAllEndsAreRead};
 ghost use Rattle.proxy_turn.specs.OverCases.{NoMoreActsThanAThousand, NoReportOmitsAnUnreadEnd};
-ghost use Rattle.proxy_turn.specs.OverCases.{NoReportOmitsAConnection, NoReportCountsWhatWasNotDone};
+ghost use Rattle.proxy_turn.specs.OverCases.{NoReportedTurnStopsAcceptingEarly, NoReportCountsWhatWasNotDone};
 ghost use Rattle.proxy_turn.specs.OverCases.{ListenerFaultOnlyAfterFailedAccept, NoUnreadableEndIsListed};
-ghost use Rattle.proxy_turn.specs.OverCases.{CallsOfATurnOverEndsStandInOrder};
+ghost use Rattle.proxy_turn.specs.OverCases.{CallsOfATurnOverGivenEndsStandInOrder};
 
 /// Each call of accept is for the next number; what came is an end of that number, and a step.
 pub fn worked_accepts()
@@ -37,7 +37,7 @@ pub fn worked_accepts()
 /// It reads no end from which no bytes may come, none twice, and passes over none of the others, also none that it
 /// accepted. It reads nothing before it has accepted, and acts on nothing before it has read. Its report leaves nothing
 /// out, and counts what was done.
-pub fn a_turn_over_ends_refuses_what_is_not_done()
+pub fn no_turn_over_given_ends_breaks_its_order()
     ensures calls { NoMoreAcceptsThanTheBound }
     ensures full { NoAcceptAtTheConnectionBound }
     ensures behind { NoAcceptAfterNoConnectionCame }
@@ -49,9 +49,9 @@ pub fn a_turn_over_ends_refuses_what_is_not_done()
     ensures acts { NoActBeforeAllEndsAreRead }
     ensures many { NoMoreActsThanAThousand }
     ensures whole { NoReportOmitsAnUnreadEnd }
-    ensures connections { NoReportOmitsAConnection }
+    ensures connections { NoReportedTurnStopsAcceptingEarly }
     ensures counts { NoReportCountsWhatWasNotDone }
     ensures failure { ListenerFaultOnlyAfterFailedAccept }
     ensures listed { NoUnreadableEndIsListed }
-    ensures order { CallsOfATurnOverEndsStandInOrder }
+    ensures order { CallsOfATurnOverGivenEndsStandInOrder }
 {}

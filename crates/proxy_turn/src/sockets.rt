@@ -11,7 +11,7 @@ use std::net::SocketAddrV4;
 
 /// A call on a socket failed. No further call is made on its end.
 #[derive(Clone, Copy, Debug, PartialEq, Eq)]
-pub struct SocketFailed;
+pub struct SocketCallFailed;
 
 /// A listener, the clients that it accepted and the links to origins, each client and link by its number.
 pub trait Sockets {
@@ -28,14 +28,14 @@ pub trait Sockets {
     ghost failures: { Self → ℕ };
 
     /// Accepts a connection under this number, if one waits.
-    fn accept(&mut self, n: u64) -> Result<bool, SocketFailed>
+    fn accept(&mut self, n: u64) -> Result<bool, SocketCallFailed>
         ensures did { Did self.old (Accept n (accept_outcome_of result) ∷ []) self.new }
         ensures accepts { CountRisesBy (accepts self.old) (accepts self.new) 1 }
         ensures reads { reads self.new ≡ reads self.old }
         ensures failures { CountRisesBy (failures self.old) (failures self.new) (failed result) };
 
     /// Reads what has come from a client or on a link, at most as many bytes as there is room for.
-    fn read(&mut self, end: End, buf: &mut [u8]) -> Result<Received, SocketFailed>
+    fn read(&mut self, end: End, buf: &mut [u8]) -> Result<Received, SocketCallFailed>
         ensures did { Did self.old (Read end (read_outcome_of result buf.new) ∷ []) self.new }
         ensures within { IfOk result (ReceivedBytesAreAtMostRoom (length buf.old)) }
         ensures length { length buf.new ≡ length buf.old }
@@ -50,21 +50,21 @@ pub trait Sockets {
         end: End,
         bytes: &[u8],
         replied: Option<&ReplyData>,
-    ) -> Result<(), SocketFailed>
+    ) -> Result<(), SocketCallFailed>
         ensures did { Did self.old (Write end bytes.now (option_copied replied.entry) (is_ok result) ∷ []) self.new }
         ensures accepts { accepts self.new ≡ accepts self.old }
         ensures reads { reads self.new ≡ reads self.old }
         ensures failures { CountRisesBy (failures self.old) (failures self.new) (failed result) };
 
     /// Opens the link of this number to an address.
-    fn connect(&mut self, link: u64, address: SocketAddrV4) -> Result<(), SocketFailed>
+    fn connect(&mut self, link: u64, address: SocketAddrV4) -> Result<(), SocketCallFailed>
         ensures did { Did self.old (Connect link address (is_ok result) ∷ []) self.new }
         ensures accepts { accepts self.new ≡ accepts self.old }
         ensures reads { reads self.new ≡ reads self.old }
         ensures failures { CountRisesBy (failures self.old) (failures self.new) (failed result) };
 
     /// Closes a client's connection or a link.
-    fn shut(&mut self, end: End) -> Result<(), SocketFailed>
+    fn shut(&mut self, end: End) -> Result<(), SocketCallFailed>
         ensures did { Did self.old (Shut end (is_ok result) ∷ []) self.new }
         ensures accepts { accepts self.new ≡ accepts self.old }
         ensures reads { reads self.new ≡ reads self.old }

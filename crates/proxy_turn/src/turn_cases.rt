@@ -8,14 +8,14 @@ ghost use Rattle.proxy_script.specs.declared.effect_list.Effect.TheVariants as e
 ghost use Rattle.proxy_engine.specs.Happenings.{Accepts, Sends, Hears, Ends, Leaves, Retires, Overdues, Shuts, Fails};
 ghost use Rattle.proxy_engine.specs.Due.{Wakes};
 ghost use Rattle.proxy_engine.specs.Executions.{Took, Worked};
-ghost use Rattle.proxy_engine.specs.ModelCases.{replied_to_a};
+ghost use Rattle.proxy_engine.specs.ModelCases.{reply_data_for_a};
 ghost use Rattle.proxy_engine.specs.declared.work.End.TheVariants as ends;
 ghost use Rattle.proxy_turn.specs.Calls as call;
 ghost use Rattle.proxy_turn.specs.Calls.{Nothing, Ended, Broken, Bytes};
 ghost use Rattle.proxy_turn.specs.Turn.{Carried, Passed, Lost, calls_of_effect, calls_of_effects, end_has_failed};
 ghost use Rattle.proxy_turn.specs.Turn.{happening_of_loss, happening_of_read};
 ghost use Rattle.proxy_turn.specs.TurnSteps.{steps_of_lost_ends, steps_of_reads, steps_of_rounds};
-ghost use Rattle.proxy_turn.specs.Served.{IsLossOfAnEnd, steps_taking_happenings};
+ghost use Rattle.proxy_turn.specs.Served.{IsLossTimeoutOrRetirement, steps_taking_happenings};
 ghost use Rattle.proxy_turn.specs.TurnCases.{TurnHasAtMostAThousandActs, NoAcceptWhereNoneMayBeAccepted};
 ghost use Rattle.proxy_turn.specs.TurnCases.{NoUnreadableEndIsReadInATurn};
 ghost use Rattle.proxy_turn.specs.TurnCases.{NoActBeforeAllReads, NoReadGivesMoreThanAPiece};
@@ -26,10 +26,10 @@ ghost use Rattle.proxy_turn.specs.TurnCases.{NoEffectIsSkippedWithoutFailure, No
 /// The calls of an effect: its bytes go to its end, whole and once, with what reply they are and what it answers, and
 /// behind a failed call none is made. Of a forward that failed as refused the connect failed, of any other the write.
 pub fn worked_calls_of_effects()
-    ensures reply { calls_of_effect (effects.Client 1 (codes "x") (Some replied_to_a)) Carried
-        ≡ call.Write (ends.Client 1) (codes "x") (Some replied_to_a) true ∷ [] }
-    ensures failed_reply { calls_of_effect (effects.Client 1 (codes "x") (Some replied_to_a)) (Lost kinds.Closed)
-        ≡ call.Write (ends.Client 1) (codes "x") (Some replied_to_a) false ∷ [] }
+    ensures reply { calls_of_effect (effects.Client 1 (codes "x") (Some reply_data_for_a)) Carried
+        ≡ call.Write (ends.Client 1) (codes "x") (Some reply_data_for_a) true ∷ [] }
+    ensures failed_reply { calls_of_effect (effects.Client 1 (codes "x") (Some reply_data_for_a)) (Lost kinds.Closed)
+        ≡ call.Write (ends.Client 1) (codes "x") (Some reply_data_for_a) false ∷ [] }
     ensures interim { calls_of_effect (effects.Client 1 (codes "x") None) Carried
         ≡ call.Write (ends.Client 1) (codes "x") None true ∷ [] }
     ensures close { calls_of_effect (effects.Close 1) Carried ≡ call.Shut (ends.Client 1) true ∷ [] }
@@ -86,7 +86,7 @@ pub fn worked_order_of_steps()
 /// large, acts before it has read, leaves out an end and says nothing of it, or counts what wasn't done. No call is
 /// made on an end that is lost, no effect is passed over to one that isn't, and between turns nothing is taken but
 /// losses.
-pub fn a_turn_refuses_what_is_not_done()
+pub fn no_turn_breaks_its_order_or_bounds()
     ensures acts { TurnHasAtMostAThousandActs }
     ensures listener { NoAcceptWhereNoneMayBeAccepted }
     ensures ends { NoUnreadableEndIsReadInATurn }
@@ -98,11 +98,11 @@ pub fn a_turn_refuses_what_is_not_done()
     ensures lost { NoCallOnAFailedEnd }
     ensures passed { NoEffectIsSkippedWithoutFailure }
     ensures refused { NoClientWriteCountsAsRefused }
-    ensures bytes_are_no_loss { IsLossOfAnEnd (Sends 1 (codes "x")) → ⊥ }
-    ensures answers_are_no_loss { IsLossOfAnEnd (Hears 5 (codes "x")) → ⊥ }
-    ensures a_connection_is_no_loss { IsLossOfAnEnd (Accepts 1) → ⊥ }
-    ensures who_is_to_end_is_one { IsLossOfAnEnd (Retires 1) }
-    ensures who_is_overdue_is_one { IsLossOfAnEnd (Overdues 1) }
-    ensures an_end_is_no_loss { IsLossOfAnEnd (Ends 1) → ⊥ }
-    ensures a_shut_link_is_no_loss { IsLossOfAnEnd (Shuts 5) → ⊥ }
+    ensures bytes_are_no_loss { IsLossTimeoutOrRetirement (Sends 1 (codes "x")) → ⊥ }
+    ensures answers_are_no_loss { IsLossTimeoutOrRetirement (Hears 5 (codes "x")) → ⊥ }
+    ensures a_connection_is_no_loss { IsLossTimeoutOrRetirement (Accepts 1) → ⊥ }
+    ensures who_is_to_end_is_one { IsLossTimeoutOrRetirement (Retires 1) }
+    ensures who_is_overdue_is_one { IsLossTimeoutOrRetirement (Overdues 1) }
+    ensures an_end_is_no_loss { IsLossTimeoutOrRetirement (Ends 1) → ⊥ }
+    ensures a_shut_link_is_no_loss { IsLossTimeoutOrRetirement (Shuts 5) → ⊥ }
 {}

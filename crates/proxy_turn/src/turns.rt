@@ -1,19 +1,19 @@
 //! A turn, in three parts: connections are accepted, each end of a list from which bytes may come is read once, and
 //! what is then due is done.
 ghost use Rattle.std.specs.Prelude.{◌<◌, ◌≤◌, ◌≡◌, ◌^◌, length, filter, IfOk, IfErr};
-ghost use Rattle.hx_fields.specs.declared.limits.TheConstants.{END_OF_TIME};
+ghost use Rattle.hx_fields.specs.declared.limits.TheConstants.{START_OF_YEAR_10000};
 ghost use Rattle.proxy_engine.specs.EngineModel.{EngineModel};
 ghost use Rattle.proxy_engine.specs.State.{EngineRepresents};
 ghost use Rattle.proxy_engine.specs.Orderly.{ModelIsConsistent};
 ghost use Rattle.proxy_engine.specs.Reading.{end_may_send};
 ghost use Rattle.proxy_turn.specs.Counts.{calls};
 ghost use Rattle.proxy_turn.specs.Turn.{EngineTurnsWithCalls};
-ghost use Rattle.proxy_turn.specs.Parts.{EndNumberWasGiven, EndNumbersWereGiven, OneEndIsRead, NoEndIsRead};
+ghost use Rattle.proxy_turn.specs.Parts.{EndNumberWasGiven, EndNumbersWereGiven, OneEndIsRead, OutOfMemoryBeforeRead};
 ghost use Rattle.proxy_turn.specs.Parts.{DueActsAreDone};
-ghost use Rattle.proxy_turn.specs.Over.{EngineTurnsOverEndsWithCalls};
+ghost use Rattle.proxy_turn.specs.Over.{EngineTurnsOverGivenEndsWithCalls};
 ghost use Rattle.proxy_turn.specs.OverParts.{ListenerIsAskedAtMostOnce, ConnectionsAreAccepted, EndsOfListAreRead};
 
-use crate::bounds::TurnBounds;
+use crate::bounds::TurnAcceptBounds;
 use crate::effects::{carry_out, take};
 use crate::happenings::happening_of_read;
 use crate::limits::{MOST_ACTS_OF_A_TURN, MOST_EFFECTS_OF_AN_ACT, MOST_OPEN_CONNECTIONS};
@@ -46,7 +46,7 @@ fn accept<S: Shelf, K: Sockets>(
     if !engine.has_fewer_connections(most_open) {
         return Ok(false);
     }
-    let Some(n) = engine.next_connection() else {
+    let Some(n) = engine.number_of_next_connection() else {
         return Ok(false);
     };
     // Room comes first, so no connection that came is lost.
@@ -73,7 +73,7 @@ fn accept_all<S: Shelf, K: Sockets>(
     engine: &mut Engine<S>,
     sockets: &mut K,
     alloc: Global,
-    bounds: TurnBounds,
+    bounds: TurnAcceptBounds,
     ends: &mut Vec<End>,
 ) -> Result<u64, TurnFault>
     ensures { (s : EngineModel) → EngineRepresents engine.old s
@@ -117,7 +117,7 @@ fn read_from_end<S: Shelf, K: Sockets>(
         (calls (K.accepts sockets.old) (K.reads sockets.old) (K.failures sockets.old))
         (calls (K.accepts sockets.new) (K.reads sockets.new) (K.failures sockets.new)) count) }
     ensures err { IfErr result (λ fault. (s : EngineModel) → EngineRepresents engine.old s → EndNumberWasGiven s end
-        → NoEndIsRead s engine.new (λ made. K.Did sockets.old made sockets.new)
+        → OutOfMemoryBeforeRead s engine.new (λ made. K.Did sockets.old made sockets.new)
         (calls (K.accepts sockets.old) (K.reads sockets.old) (K.failures sockets.old))
         (calls (K.accepts sockets.new) (K.reads sockets.new) (K.failures sockets.new)) fault) }
 {
@@ -161,7 +161,7 @@ fn work_all<S: Shelf, K: Sockets>(
     alloc: Global,
     now: u64,
 ) -> Result<(u64, u64), TurnFault>
-    requires { now < END_OF_TIME }
+    requires { now < START_OF_YEAR_10000 }
     ensures { (s : EngineModel) → EngineRepresents engine.old s → ModelIsConsistent s
         → DueActsAreDone now s engine.new (λ made. K.Did sockets.old made sockets.new)
         (calls (K.accepts sockets.old) (K.reads sockets.old) (K.failures sockets.old))
@@ -204,21 +204,21 @@ fn work_all<S: Shelf, K: Sockets>(
 /// link as its closing. After a fault the engine stands where the whole takes and works of the turn left it.
 ///
 /// What each read gave is what the engine takes, and each effect's bytes go to its end, whole, once and in order: the
-/// calls on the sockets are those of the turn (`calls_of_turn_over_ends`), and no others.
-pub fn turn_over_ends<S: Shelf, K: Sockets>(
+/// calls on the sockets are those of the turn (`calls_of_turn_over_given_ends`), and no others.
+pub fn turn_over_given_ends<S: Shelf, K: Sockets>(
     engine: &mut Engine<S>,
     sockets: &mut K,
     alloc: Global,
     now: u64,
-    bounds: TurnBounds,
+    bounds: TurnAcceptBounds,
     ends: &mut Vec<End>,
     buf: &mut [u8],
 ) -> Result<Report, TurnFault>
-    requires early { now < END_OF_TIME }
+    requires early { now < START_OF_YEAR_10000 }
     requires piece { length buf.old ≡ 4096 }
     ensures length { length buf.new ≡ length buf.old }
     ensures turns { (s : EngineModel) → EngineRepresents engine.old s → ModelIsConsistent s
-        → EngineTurnsOverEndsWithCalls now bounds s ends.old.items engine.new ends.new.items
+        → EngineTurnsOverGivenEndsWithCalls now bounds s ends.old.items engine.new ends.new.items
         (λ made. K.Did sockets.old made sockets.new)
         (calls (K.accepts sockets.old) (K.reads sockets.old) (K.failures sockets.old))
         (calls (K.accepts sockets.new) (K.reads sockets.new) (K.failures sockets.new)) result }
@@ -250,7 +250,7 @@ pub fn turn_over_ends<S: Shelf, K: Sockets>(
 /// Serves one turn over each end from which bytes may come: one connection is asked for, where fewer than 256 are open.
 /// `now` is in Unix seconds, up to the end of the year 9999.
 ///
-/// The rest is as `turn_over_ends` says; the calls on the sockets are those of the turn (`calls_of_turn`), and no
+/// The rest is as `turn_over_given_ends` says; the calls on the sockets are those of the turn (`calls_of_turn`), and no
 /// others.
 pub fn turn<S: Shelf, K: Sockets>(
     engine: &mut Engine<S>,
@@ -258,7 +258,7 @@ pub fn turn<S: Shelf, K: Sockets>(
     alloc: Global,
     now: u64,
 ) -> Result<Report, TurnFault>
-    requires { now < END_OF_TIME }
+    requires { now < START_OF_YEAR_10000 }
     ensures { (s : EngineModel) → EngineRepresents engine.old s → ModelIsConsistent s
         → EngineTurnsWithCalls now s engine.new (λ made. K.Did sockets.old made sockets.new)
         (calls (K.accepts sockets.old) (K.reads sockets.old) (K.failures sockets.old))
@@ -276,7 +276,7 @@ pub fn turn_with_buffer<S: Shelf, K: Sockets>(
     now: u64,
     buf: &mut [u8],
 ) -> Result<Report, TurnFault>
-    requires early { now < END_OF_TIME }
+    requires early { now < START_OF_YEAR_10000 }
     requires piece { length buf.old ≡ 4096 }
     ensures length { length buf.new ≡ length buf.old }
     ensures turns { (s : EngineModel) → EngineRepresents engine.old s → ModelIsConsistent s
@@ -288,9 +288,9 @@ pub fn turn_with_buffer<S: Shelf, K: Sockets>(
     let Ok(mut ends) = engine.readable_ends(alloc) else {
         return Err(TurnFault::NoMemory);
     };
-    let bounds = TurnBounds {
+    let bounds = TurnAcceptBounds {
         most_open: MOST_OPEN_CONNECTIONS,
         most_accepts: 1,
     };
-    turn_over_ends(engine, sockets, alloc, now, bounds, &mut ends, buf)
+    turn_over_given_ends(engine, sockets, alloc, now, bounds, &mut ends, buf)
 }

@@ -20,7 +20,7 @@ use Rattle.hx_reuse.specs.declared.rule.ReuseRule.{ReuseRule}
 use Rattle.hx_reuse.specs.declared.decision.Decision.{Decision}
 use Rattle.hx_reuse.specs.declared.decision.Decision.TheVariants as decision
 use Rattle.hx_status.specs.declared.about.ReplyData.{ReplyData}
-use Rattle.hx_status.specs.declared.question.Question.{Question}
+use Rattle.hx_status.specs.declared.question.MethodAndTarget.{MethodAndTarget}
 use Rattle.hx_status.specs.declared.cause.Cause.{Cause}
 use Rattle.hx_status.specs.declared.cause.Cause.TheVariants as cause
 use Rattle.hx_status.specs.declared.cause.FailKind.{FailKind}
@@ -34,16 +34,16 @@ use Rattle.std.proofs.lemmas.Option.{same_Some}
 use Rattle.proxy_core.specs.declared.outcome.Outcome.{Outcome}
 use Rattle.proxy_core.specs.declared.outcome.Outcome.TheVariants as outcomes
 use Rattle.proxy_core.specs.declared.steps.condition.Condition.{Condition}
-use Rattle.proxy_core.specs.declared.steps.fallback.Fallback.{Fallback}
-use Rattle.proxy_core.specs.declared.steps.fallback.Fallback.TheVariants as fallback
-use Rattle.proxy_core.specs.Validating.{condition_about_serial}
+use Rattle.proxy_core.specs.declared.steps.fallback.FallbackDecision.{FallbackDecision}
+use Rattle.proxy_core.specs.declared.steps.fallback.FallbackDecision.TheVariants as fallback
+use Rattle.proxy_core.specs.Validating.{condition_to_revalidate_serial}
 use Rattle.proxy_core.specs.Leading.{is_forwarded, waits_for}
 use Rattle.proxy_core.specs.Awaiting.{leader_of_request}
-use Rattle.proxy_core.specs.Outcomes.{find_exchange, exchange_id_of_event, fault_at_exchange, fallback_for_failed_answer, outcome_for_exchange, outcome_of_arrival, outcome_of_allowed_request, outcome_without_stored_response, outcome_of_waiting_or_forwarding, outcome_of_failure, outcome_of_wake, is_only_if_cached}
+use Rattle.proxy_core.specs.Outcomes.{find_exchange, exchange_id_of_event, fault_at_exchange, fallback_for_failed_answer, outcome_of_event_at_exchange, outcome_of_arrival, outcome_of_allowed_request, outcome_where_reuse_rule_applies, outcome_of_waiting_or_forwarding, outcome_of_failure, outcome_of_wake, is_only_if_cached}
 use Rattle.proxy_core.specs.Promises.{is_arrival_event, outcome_ends_exchange, outcome_goes_forward}
 use Rattle.proxy_core.specs.Scopes.{Scope, key_is_in_scope}
-use Rattle.proxy_core.specs.State.{State as CoreState, state_after_event, released_exchange, overtaken_exchange, forwarded_exchange, waiting_exchange, StepIsAccepted, exchange_released_by_timeout}
-use Rattle.proxy_core.specs.TraceMeaning.{opens_an_exchange}
+use Rattle.proxy_core.specs.State.{State as CoreState, state_after_event, exchange_released_from_leader, exchange_overtaken_if_in_scope, forwarded_exchange, exchange_begun_waiting, StepIsAccepted, exchange_released_by_timeout}
+use Rattle.proxy_core.specs.TraceMeaning.{outcome_opens_exchange}
 use Rattle.proxy_engine.proofs.Asking.{overdue_steps}
 use Rattle.proxy_core.specs.Starts.{StoreAtStart}
 use Rattle.proxy_core.specs.Traces.{initial_state as core_begun}
@@ -52,11 +52,11 @@ use Rattle.proxy_core.proofs.ExchangeLists.{changed_by}
 use Rattle.proxy_core.proofs.Moves.{Move, apart, opens, queues, passes, again, wakes, closes, turns, lapses, move_of, out_again, woken_form, forward_goes_on, is_either, answer_either}
 use Rattle.proxy_script.specs.declared.effect_list.Effect.{Effect}
 use Rattle.proxy_script.specs.declared.effect_list.Effect.TheVariants as effects
-use Rattle.proxy_engine.specs.Activities.{has_exchange, link_place_of_activity, forwarded_or_waiting}
-use Rattle.proxy_engine.specs.Questions.{question_of}
-use Rattle.proxy_engine.specs.Acts.{request_is_head, OutcomeOnConnection, Replies, Forwards, Queues, Nothing, outcome_with_origin_address, effects_of_outcome, model_after_outcome, next_link_number, CoreIsStepped, RequestIsRefused, ConnectionIsClosed, RequestArrives, ConnectionIsServed, ActIsDone, effects_of_link_drop}
-use Rattle.proxy_engine.specs.Admitted.{Refusal, RequestIsAdmittedOrRefused, asked_on_connection}
-use Rattle.proxy_engine.specs.Due.{Act, Abandons, Finishes, Wakes, Serves, Gives, Breaks, IsDueFirst, ConnectionActionUnlessBusy, accepts_no_request}
+use Rattle.proxy_engine.specs.Activities.{has_exchange, link_place_of_activity, is_forwarded_if_exchange}
+use Rattle.proxy_engine.specs.Questions.{question_of_request}
+use Rattle.proxy_engine.specs.Acts.{request_is_head, OutcomeOnConnection, Replies, Forwards, Queues, Nothing, outcome_with_origin_address, effects_of_outcome, model_after_outcome, next_link_number, CoreIsStepped, RequestIsRefusedAndClosed, ConnectionIsClosedWithEffect, RequestArrivesOrIsRefused, ConnectionRequestIsServed, ActIsDone, effects_of_link_drop}
+use Rattle.proxy_engine.specs.Admitted.{Refusal, RequestIsAdmittedOrRefused, asked_closing_if_retired}
+use Rattle.proxy_engine.specs.Due.{Act, Abandons, Finishes, Wakes, Serves, Gives, Breaks, IsFirstDueAct, IsDueRequestActionUnlessBusy, accepts_no_request}
 use Rattle.proxy_engine.specs.EngineModel.{EngineModel, ConnectionModel, no_connection, connection_at, link_at, model_with_core, happening_fault, model_after_happening}
 use Rattle.proxy_engine.specs.Happenings.{HappeningModel, Accepts, Sends, Hears, Ends, Leaves, Retires, Overdues, Shuts, Fails}
 use Rattle.proxy_engine.specs.Orderly.{ModelIsConsistent, activity_of_model, EndedEndsStayEnded, NewModelIsConsistent, HappeningKeepsModelConsistent, ActKeepsModelConsistent, EndedEndsStayEndedAfterHappening, EndedEndsStayEndedAfterAct}
@@ -66,7 +66,7 @@ use Rattle.proxy_engine.specs.Executions.{ExecutionStep, Took, Worked, StepLeads
 use Rattle.proxy_engine.specs.declared.endpoints.activities.Activity.{Activity}
 use Rattle.proxy_engine.specs.declared.endpoints.activities.Activity.TheVariants.{Free, Forwarded, Waiting}
 use Rattle.proxy_engine.proofs.Shown.{lost_by}
-use Rattle.proxy_turn_laws.specs.Dialogue.{DialogueEvent, RequestCame, ReplyWent, ClientLeft, replies_to, final_replies_to, dialogue_of_act, dialogue_of_steps, DialogueState, Answered, Awaited, Left, DialogueIsInState, CoreIsHandedTheRequest, LastRequestIsOpen, count_of_requests_in_dialogue, count_of_replies_in_dialogue, RepliesFollowRequests, EachRequestHasOneReply, NoRequestIsAnsweredTwice, NoReplyWithoutARequest, NoRequestIsLeftUnanswered, NothingFollowsALeave, NoActAnswersTwice}
+use Rattle.proxy_turn_laws.specs.Dialogue.{DialogueEvent, RequestCame, ReplyWent, ClientLeft, replies_to, final_replies_to, dialogue_of_act, dialogue_of_steps, DialogueState, Answered, Awaited, Left, DialogueIsInState, CoreIsHandedTheRequest, LastRequestIsOpen, count_of_requests_in_dialogue, count_of_replies_in_dialogue, RepliesFollowRequests, RepliesEqualRequestsOrOneFewer, NoRequestIsAnsweredTwice, NoReplyWithoutARequest, NoRequestIsPassedOverByALaterOne, NothingFollowsALeave, NoActRepliesTwiceToAClient}
 
 -- ---- the replies among effects
 
@@ -88,14 +88,14 @@ client_told : (n m : ℕ) (bytes : List ℕ) (replied : Option ReplyData) (close
 client_told n m bytes replied close b test =
     ap (λ (xs : List DialogueEvent). xs ++ cond (m == n) (ReplyWent bytes ∷ []) []) (closing n m close) ∙ ap (λ (c : Bool). cond c (ReplyWent bytes ∷ []) []) test
 
-told_here : (i n : ℕ) (question : Option Question) (table : Table) (o : Outcome) → replies_to (i + 1) (effects_of_outcome i n question (outcome_with_origin_address table o)) ≡ told_by o
+told_here : (i n : ℕ) (question : Option MethodAndTarget) (table : Table) (o : Outcome) → replies_to (i + 1) (effects_of_outcome i n question (outcome_with_origin_address table o)) ≡ told_by o
 told_here i n question table (outcomes.Reply r) = client_told (i + 1) (i + 1) r.bytes (Some (record { about = r.about; question = question })) r.close true (eq-eqb (i + 1) (i + 1) refl)
 told_here i n question table (outcomes.Forward line bytes) = refl
 told_here i n question table (outcomes.Waits leader) = refl
 told_here i n question table outcomes.Ended = refl
 told_here i n question table outcomes.WaitsNoMore = refl
 
-told_away : (i p n : ℕ) (question : Option Question) (table : Table) (o : Outcome) → (p == i) ≡ false → replies_to (i + 1) (effects_of_outcome p n question (outcome_with_origin_address table o)) ≡ []
+told_away : (i p n : ℕ) (question : Option MethodAndTarget) (table : Table) (o : Outcome) → (p == i) ≡ false → replies_to (i + 1) (effects_of_outcome p n question (outcome_with_origin_address table o)) ≡ []
 told_away i p n question table (outcomes.Reply r) off = client_told (i + 1) (p + 1) r.bytes (Some (record { about = r.about; question = question })) r.close false (off_more p i off)
 told_away i p n question table (outcomes.Forward line bytes) off = refl
 told_away i p n question table (outcomes.Waits leader) off = refl
@@ -122,7 +122,7 @@ arrival_tells table es xs now asked (verdict.Allowed line) = by_decision (decisi
     by_leader condition None = refl
     by_leader condition (Some leader) = refl
 
-    by_only : (rule : ReuseRule) (condition : Option Condition) (only : Bool) → is_end (outcome_without_stored_response table es xs line now asked rule condition only) ≡ false
+    by_only : (rule : ReuseRule) (condition : Option Condition) (only : Bool) → is_end (outcome_where_reuse_rule_applies table es xs line now asked rule condition only) ≡ false
     by_only rule condition true = refl
     by_only rule condition false =
         unless_sent (λ (o : Outcome). is_end o ≡ false) table es line now asked (sent_over table es xs line now asked rule) (outcome_of_waiting_or_forwarding table line asked condition (led_over table es xs line asked rule))
@@ -130,7 +130,7 @@ arrival_tells table es xs now asked (verdict.Allowed line) = by_decision (decisi
 
     by_decision : (d : Decision) → is_end (outcome_of_allowed_request table es xs line now asked d) ≡ false
     by_decision (decision.Hit serial) = refl
-    by_decision (decision.Forward rule against) = by_only rule (condition_about_serial es against) (is_only_if_cached asked)
+    by_decision (decision.Forward rule against) = by_only rule (condition_to_revalidate_serial es against) (is_only_if_cached asked)
 arrival_tells table es xs now asked (verdict.DeniedBy line) = refl
 arrival_tells table es xs now asked verdict.NoLine = refl
 arrival_tells table es xs now asked (verdict.Looped line) = refl
@@ -143,21 +143,21 @@ either_tells (outcomes.Waits leader) h = refl
 either_tells outcomes.Ended h = absurd (false≢true h)
 either_tells outcomes.WaitsNoMore h = absurd (false≢true h)
 
-answer_tells : (table : Table) (es : List Stored) (xs : List Exchange) (next_serial : Option ℕ) (now id : ℕ) (r : Response) (w : Option Exchange) → fault_at_exchange w (events.Answer now id r) ≡ None → is_end (outcome_for_exchange table es xs w next_serial (events.Answer now id r)) ≡ false
+answer_tells : (table : Table) (es : List Stored) (xs : List Exchange) (next_serial : Option ℕ) (now id : ℕ) (r : Response) (w : Option Exchange) → fault_at_exchange w (events.Answer now id r) ≡ None → is_end (outcome_of_event_at_exchange table es xs w next_serial (events.Answer now id r)) ≡ false
 answer_tells table es xs next_serial now id r None a = absurd (cc)
 answer_tells table es xs next_serial now id r (Some x) a =
     let d = decision_of (policy_of table.lines x.line) es x.asked now in
     either_tells _ (answer_either table es now x r next_serial d)
 
-fail_tells : (table : Table) (es : List Stored) (xs : List Exchange) (next_serial : Option ℕ) (now id : ℕ) (kind : FailKind) (w : Option Exchange) → fault_at_exchange w (events.Fail now id kind) ≡ None → is_end (outcome_for_exchange table es xs w next_serial (events.Fail now id kind)) ≡ false
+fail_tells : (table : Table) (es : List Stored) (xs : List Exchange) (next_serial : Option ℕ) (now id : ℕ) (kind : FailKind) (w : Option Exchange) → fault_at_exchange w (events.Fail now id kind) ≡ None → is_end (outcome_of_event_at_exchange table es xs w next_serial (events.Fail now id kind)) ≡ false
 fail_tells table es xs next_serial now id kind None a = absurd (cc)
 fail_tells table es xs next_serial now id kind (Some x) a = by_fallback (fallback_for_failed_answer (policy_of table.lines x.line) es x.asked now (decision_of (policy_of table.lines x.line) es x.asked now))
   where
-    by_fallback : (f : Fallback) → is_end (outcome_of_failure table es now x kind None f) ≡ false
+    by_fallback : (f : FallbackDecision) → is_end (outcome_of_failure table es now x kind None f) ≡ false
     by_fallback (fallback.Sends serial detail) = refl
     by_fallback (fallback.Refuses rule error) = refl
 
-wake_tells : (table : Table) (es : List Stored) (xs : List Exchange) (next_serial : Option ℕ) (now id : ℕ) (w : Option Exchange) → fault_at_exchange w (events.Wake now id) ≡ None → is_end (outcome_for_exchange table es xs w next_serial (events.Wake now id)) ≡ false
+wake_tells : (table : Table) (es : List Stored) (xs : List Exchange) (next_serial : Option ℕ) (now id : ℕ) (w : Option Exchange) → fault_at_exchange w (events.Wake now id) ≡ None → is_end (outcome_of_event_at_exchange table es xs w next_serial (events.Wake now id)) ≡ false
 wake_tells table es xs next_serial now id None a = absurd (cc)
 wake_tells table es xs next_serial now id (Some x) a = by_decision (decision_of (policy_of table.lines x.line) es x.asked now)
   where
@@ -210,7 +210,7 @@ module _ (G : Type 0) (id now : ℕ) (asked : Asked) (r : Request) (v x y : Opti
   waiting outcomes.WaitsNoMore e z same is =
       record { standing = Awaited; stands = (refl, stands); last = (r, said, z, refl, is, subst (λ (a : Asked). CoreIsHandedTheRequest r a) (sym same) admitted); gone = λ e. absurd (cc) }
 
-  answered : (o : Outcome) → opens_an_exchange o ≡ false → is_end o ≡ false → y ≡ None → After o
+  answered : (o : Outcome) → outcome_opens_exchange o ≡ false → is_end o ≡ false → y ≡ None → After o
   answered (outcomes.Reply p) e tells is = record { standing = Answered; stands = (refl, (refl, stands)); last = is; gone = λ e. absurd (cc) }
   answered (outcomes.Forward line bytes) e tells is = absurd (false≢true (sym e))
   answered (outcomes.Waits leader) e tells is = absurd (false≢true (sym e))
@@ -224,7 +224,7 @@ module _ (G : Type 0) (id now : ℕ) (asked : Asked) (r : Request) (v x y : Opti
       waiting o (forward_goes_on o goes) (forwarded_exchange table es now2 id asked2 line) same yi
   arrives_here o tells (queues table es now2 asked2 line leader ev xn oi li yi) =
       let same : asked2 ≡ asked = cc in
-      waiting o (ap outcome_ends_exchange oi) (waiting_exchange table es now2 id asked2 line leader) same yi
+      waiting o (ap outcome_ends_exchange oi) (exchange_begun_waiting table es now2 id asked2 line leader) same yi
   arrives_here o tells (passes t a xn en yn) = answered o en tells yn
   arrives_here o tells (again z now2 t a xi c g yi j f) = absurd (false≢true (sym a))
   arrives_here o tells (wakes table es z now2 ev xi st g yi) = absurd (cc)
@@ -295,14 +295,14 @@ module _ (G : Type 0) (id : ℕ) (event : Event) (v x y : Option Exchange) (said
       absurd (cc)
 
 -- what a step on another connection does to it
-released_asked : (i : ℕ) (x : Exchange) → (released_exchange i x).asked ≡ x.asked
+released_asked : (i : ℕ) (x : Exchange) → (exchange_released_from_leader i x).asked ≡ x.asked
 released_asked i x = by_test (waits_for i x.stage)
   where
     by_test : (b : Bool) → (cond b (record x { stage = Released }) x).asked ≡ x.asked
     by_test true = refl
     by_test false = refl
 
-overtaken_asked : (key : Scope) (x : Exchange) → (overtaken_exchange key x).asked ≡ x.asked
+overtaken_asked : (key : Scope) (x : Exchange) → (exchange_overtaken_if_in_scope key x).asked ≡ x.asked
 overtaken_asked key x = by_test (key_is_in_scope key x.asked.target.key)
   where
     by_test : (b : Bool) → (cond b (record x { overtaken = true }) x).asked ≡ x.asked
@@ -317,9 +317,9 @@ changed_none (Some key) (Some i) = refl
 
 changed_some : (key : Option Scope) (i : Option ℕ) (x : Exchange) → (z : Exchange) × (changed_by key i (Some x) ≡ Some z) × (z.asked ≡ x.asked)
 changed_some None None x = (x, refl, refl)
-changed_some None (Some i) x = (released_exchange i x, refl, released_asked i x)
-changed_some (Some key) None x = (overtaken_exchange key x, refl, overtaken_asked key x)
-changed_some (Some key) (Some i) x = (overtaken_exchange key (released_exchange i x), refl, overtaken_asked key (released_exchange i x) ∙ released_asked i x)
+changed_some None (Some i) x = (exchange_released_from_leader i x, refl, released_asked i x)
+changed_some (Some key) None x = (exchange_overtaken_if_in_scope key x, refl, overtaken_asked key x)
+changed_some (Some key) (Some i) x = (exchange_overtaken_if_in_scope key (exchange_released_from_leader i x), refl, overtaken_asked key (exchange_released_from_leader i x) ∙ released_asked i x)
 
 changed_here : (G : Type 0) (key : Option Scope) (i : Option ℕ) (x : Option Exchange) (said : List DialogueEvent) → Here G said x → Here G said (changed_by key i x)
 changed_here G key i x said here = record { standing = here.standing; stands = here.stands; last = by_standing here.standing here.last; gone = here.gone }
@@ -377,7 +377,7 @@ none_there : (o : Option Exchange) → option_map (λ (x : Exchange). is_forward
 none_there None h = refl
 none_there (Some x) h = absurd (cc)
 
-not_busy : (b : Bool) (c : ConnectionModel) (w : Next Request) → ConnectionActionUnlessBusy b c (Some w) → b ≡ false
+not_busy : (b : Bool) (c : ConnectionModel) (w : Next Request) → IsDueRequestActionUnlessBusy b c (Some w) → b ≡ false
 not_busy true c w h = absurd (cc)
 not_busy false c w h = refl
 
@@ -416,13 +416,13 @@ module _ (i : ℕ) where
 
     says_here : p ≡ i → replies_to (i + 1) emitted ≡ told_by d.outcome
     says_here same =
-        (ap (replies_to (i + 1)) d.emitted_is ∙ silent (effects_of_outcome p (next_link_number s) (option_map question_of asked) (outcome_with_origin_address s.core.table d.outcome)))
-        ∙ subst (λ (q : ℕ). replies_to (i + 1) (effects_of_outcome q (next_link_number s) (option_map question_of asked) (outcome_with_origin_address s.core.table d.outcome)) ≡ told_by d.outcome) (sym same) (told_here i (next_link_number s) (option_map question_of asked) s.core.table d.outcome)
+        (ap (replies_to (i + 1)) d.emitted_is ∙ silent (effects_of_outcome p (next_link_number s) (option_map question_of_request asked) (outcome_with_origin_address s.core.table d.outcome)))
+        ∙ subst (λ (q : ℕ). replies_to (i + 1) (effects_of_outcome q (next_link_number s) (option_map question_of_request asked) (outcome_with_origin_address s.core.table d.outcome)) ≡ told_by d.outcome) (sym same) (told_here i (next_link_number s) (option_map question_of_request asked) s.core.table d.outcome)
 
     says_away : (p == i) ≡ false → replies_to (i + 1) emitted ≡ []
     says_away off =
-        (ap (replies_to (i + 1)) d.emitted_is ∙ silent (effects_of_outcome p (next_link_number s) (option_map question_of asked) (outcome_with_origin_address s.core.table d.outcome)))
-        ∙ told_away i p (next_link_number s) (option_map question_of asked) s.core.table d.outcome off
+        (ap (replies_to (i + 1)) d.emitted_is ∙ silent (effects_of_outcome p (next_link_number s) (option_map question_of_request asked) (outcome_with_origin_address s.core.table d.outcome)))
+        ∙ told_away i p (next_link_number s) (option_map question_of_request asked) s.core.table d.outcome off
 
     own_here : p ≡ i → exchange_id_of_event event ≡ i + 1
     own_here same = own ∙ ap (λ (q : ℕ). q + 1) same
@@ -530,7 +530,7 @@ module _ (i : ℕ) where
     Goes act = Here (IsGone s) (dialogue_of_act i act emitted ++ said) (open_at t)
 
     -- where a connection may be served, each of its requests was answered
-    ready : (p : ℕ) (w : Next Request) → IsDueFirst s (Some (Serves p w)) → p ≡ i → DialogueIsInState Answered said × (open_at s ≡ None)
+    ready : (p : ℕ) (w : Next Request) → IsFirstDueAct s (Some (Serves p w)) → p ≡ i → DialogueIsInState Answered said × (open_at s ≡ None)
     ready p w due same = (by_standing here.standing here.stands here.last here.gone, none)
       where
         c : ConnectionModel
@@ -546,24 +546,24 @@ module _ (i : ℕ) where
         free = subst (λ (q : ℕ). (connection_at s q).activity ≡ Free) same parts.1
 
         none : open_at s ≡ None
-        none = none_there (open_at s) (orderly.paired.opened i ∙ ap forwarded_or_waiting (doing_there s.connections i ∙ free))
+        none = none_there (open_at s) (orderly.paired.opened i ∙ ap is_forwarded_if_exchange (doing_there s.connections i ∙ free))
 
         by_standing : (o : DialogueState) → DialogueIsInState o said → LastRequestIsOpen o said (open_at s) → (o ≡ Left → IsGone s) → DialogueIsInState Answered said
         by_standing Answered stands last gone = stands
         by_standing Awaited stands (r, past, x, said_is, found, admitted) gone = let no : None ≡ Some x = sym none ∙ found in absurd (cc)
         by_standing Left stands last gone = absurd (false≢true (sym still ∙ (gone refl).1))
 
-    arrives : (p : ℕ) (r : Request) (judged : Result Asked Refusal) → IsDueFirst s (Some (Serves p (next.Message r))) → RequestIsAdmittedOrRefused r judged → RequestArrives s now p r judged emitted t → Goes (Serves p (next.Message r))
-    arrives p r (Ok asked) due admitted h = arrived_step (IsGone s) s _ t p now r (asked_on_connection (connection_at s p).retired asked) emitted said ((connection_at s p).retired, (asked, admitted, refl)) h.1 (λ same. (ready p (next.Message r) due same).0) here
+    arrives : (p : ℕ) (r : Request) (judged : Result Asked Refusal) → IsFirstDueAct s (Some (Serves p (next.Message r))) → RequestIsAdmittedOrRefused r judged → RequestArrivesOrIsRefused s now p r judged emitted t → Goes (Serves p (next.Message r))
+    arrives p r (Ok asked) due admitted h = arrived_step (IsGone s) s _ t p now r (asked_closing_if_retired (connection_at s p).retired asked) emitted said ((connection_at s p).retired, (asked, admitted, refl)) h.1 (λ same. (ready p (next.Message r) due same).0) here
     arrives p r (Err refusal) due admitted h = refused_step (IsGone s) s t p (next.Message r) _ _ emitted said h.emitted_is (ap (λ (u : EngineModel). u.core) h.after_is) (ready p (next.Message r) due) here
 
-    refused : (p : ℕ) (fault : FrameFault) (why : Cause) → IsDueFirst s (Some (Serves p (next.Refused fault))) → RequestIsRefused s now p why false None emitted t → Here (IsGone s) ((replies_to (i + 1) emitted ++ cond (p == i) (RequestCame (next.Refused fault) ∷ []) []) ++ said) (open_at t)
+    refused : (p : ℕ) (fault : FrameFault) (why : Cause) → IsFirstDueAct s (Some (Serves p (next.Refused fault))) → RequestIsRefusedAndClosed s now p why false None emitted t → Here (IsGone s) ((replies_to (i + 1) emitted ++ cond (p == i) (RequestCame (next.Refused fault) ∷ []) []) ++ said) (open_at t)
     refused p fault why due h = refused_step (IsGone s) s t p (next.Refused fault) _ _ emitted said h.emitted_is (ap (λ (u : EngineModel). u.core) h.after_is) (ready p (next.Refused fault) due) here
 
-    closed_silent : (p : ℕ) → ConnectionIsClosed s p emitted t → replies_to (i + 1) emitted ≡ []
+    closed_silent : (p : ℕ) → ConnectionIsClosedWithEffect s p emitted t → replies_to (i + 1) emitted ≡ []
     closed_silent p h = ap (replies_to (i + 1)) h.0
 
-    serves : (p : ℕ) (w : Next Request) → IsDueFirst s (Some (Serves p w)) → ConnectionIsServed s now p w emitted t → Goes (Serves p w)
+    serves : (p : ℕ) (w : Next Request) → IsFirstDueAct s (Some (Serves p w)) → ConnectionRequestIsServed s now p w emitted t → Goes (Serves p w)
     serves p next.More due h = absurd h
     serves p next.NeedsContinue due h =
         quiet_step (IsGone s) s t (final_replies_to (i + 1) emitted) said (ap (final_replies_to (i + 1)) h.0) (ap (λ (u : EngineModel). u.core) h.1) here
@@ -597,7 +597,7 @@ module _ (i : ℕ) where
         later_step s base t p asked (events.Wake now (p + 1)) [] emitted said d refl (λ es. refl) (IsGone s) refl
         (ap is_end d.steps.outcome_is ∙ wake_tells s.core.table s.core.entries s.core.exchanges s.core.next now (p + 1) (find_exchange (p + 1) s.core.exchanges) d.steps.allowed) here
 
-    by_act : (act : Act) → IsDueFirst s (Some act) → ActIsDone s now act emitted t → Goes act
+    by_act : (act : Act) → IsFirstDueAct s (Some act) → ActIsDone s now act emitted t → Goes act
     by_act (Abandons p l) due d =
         let c = connection_at s p in
         let lost = lost_by c.gone (has_exchange c.activity) (link_place_of_activity c.activity) l (sym due.1) in
@@ -666,8 +666,8 @@ module _ (i : ℕ) where
         subst (λ (u : EngineModel). InStep u []) (sym is) new
     lives (step ∷ past) t (s, executed, leads) = stepped step s t past leads (lives past s executed)
 
-pub replies_follow_requests : NewModelIsConsistent → HappeningKeepsModelConsistent → ActKeepsModelConsistent → EndedEndsStayEndedAfterHappening → EndedEndsStayEndedAfterAct → RepliesFollowRequests
-replies_follow_requests first_in_order takes acts heard ended table start first link steps t i executed =
+pub each_reply_answers_its_own_request : NewModelIsConsistent → HappeningKeepsModelConsistent → ActKeepsModelConsistent → EndedEndsStayEndedAfterHappening → EndedEndsStayEndedAfterAct → RepliesFollowRequests
+each_reply_answers_its_own_request first_in_order takes acts heard ended table start first link steps t i executed =
     let st = lives i first_in_order takes acts heard ended table start first link steps t executed in
     (st.here.standing, st.here.stands, st.here.last)
 
@@ -692,7 +692,7 @@ at_most_one Answered = omega arith
 at_most_one Awaited = omega arith
 at_most_one Left = omega arith
 
-pub each_request_has_one_reply : EachRequestHasOneReply
+pub each_request_has_one_reply : RepliesEqualRequestsOrOneFewer
 each_request_has_one_reply standing said h =
     let e = standing_counts standing said h in
     let l = at_most_one standing in
@@ -704,14 +704,14 @@ none_is_answered_twice standing one other past h = let no : Awaited ≡ Answered
 pub none_comes_unasked : NoReplyWithoutARequest
 none_comes_unasked standing bytes h = let no : Awaited ≡ Answered = h.1 in absurd (cc)
 
-pub none_is_passed_over : NoRequestIsLeftUnanswered
+pub none_is_passed_over : NoRequestIsPassedOverByALaterOne
 none_is_passed_over standing one other past h = let no : Answered ≡ Awaited = h.1.0 in absurd (cc)
 
 pub nothing_behind_a_leave : NothingFollowsALeave
 nothing_behind_a_leave standing what bytes past =
     (λ h. let no : Answered ≡ Left = h.1.0 in absurd (cc), λ h. let no : Awaited ≡ Left = h.1.0 in absurd (cc))
 
-pub no_act_answers_twice : RepliesFollowRequests → NoActAnswersTwice
+pub no_act_answers_twice : RepliesFollowRequests → NoActRepliesTwiceToAClient
 no_act_answers_twice follows table start first link now i past one other of_one of_other t executed =
     let emitted = effects.Client (i + 1) one of_one ∷ effects.Client (i + 1) other of_other ∷ [] in
     let h = follows table start first link (Worked now (Wakes i) emitted ∷ past) t i executed in

@@ -10,7 +10,7 @@ use Rattle.proxy_script.specs.declared.effect_list.Effect.{Effect}
 use Rattle.proxy_script.specs.declared.effect_list.Effect.TheVariants as effects
 use Rattle.proxy_turn.specs.Calls.{AcceptOutcome}
 use Rattle.proxy_turn.specs.Turn.{EndRead, ActWithEffectFates, EffectFate, Carried, Passed, Lost, calls_of_reads, calls_of_failed_forward, calls_of_effect, calls_of_effects, calls_of_rounds}
-use Rattle.proxy_turn.specs.Over.{calls_of_accepts, calls_of_turn_over_ends}
+use Rattle.proxy_turn.specs.Over.{calls_of_accepts, calls_of_turn_over_given_ends}
 use Rattle.proxy_turn_laws.specs.ToldOfATurn.{CallReportsItsEffect, EachWriteReportsItsEffect}
 use Rattle.proxy_turn_laws.proofs.Writing.{both_all}
 
@@ -59,7 +59,7 @@ module _ (rounds : List ActWithEffectFates) where
 
 pub each_write_tells : EachWriteReportsItsEffect
 each_write_tells s accepts reads rounds =
-    All-from_recursion (CallReportsItsEffect rounds) (calls_of_turn_over_ends s accepts reads rounds)
+    All-from_recursion (CallReportsItsEffect rounds) (calls_of_turn_over_given_ends s accepts reads rounds)
     (both_all (CallReportsItsEffect rounds) (calls_of_accepts (length s.connections + 1) accepts) (calls_of_reads reads ++ calls_of_rounds rounds) (accepts_tell rounds (length s.connections + 1) accepts)
     (both_all (CallReportsItsEffect rounds) (calls_of_reads reads) (calls_of_rounds rounds) (reads_tell rounds reads)
     (rounds_tell rounds rounds (recursion_from_All (Contains rounds) rounds (All-contains_itself rounds)))))

@@ -3,7 +3,7 @@ use Rattle.std.proofs.Common.{◌≡◌, ◌⊎◌, inl, inr, ℕ, ◌+◌, ◌<
 use Rattle.std.specs.Prelude.{All, Contains}
 use Rattle.std.specs.List.{AllByRecursion}
 use Rattle.std.proofs.lemmas.List.Elements.{All-from_recursion, recursion_from_All, All-contains_itself}
-use Rattle.hx_fields.specs.declared.limits.TheConstants.{END_OF_TIME}
+use Rattle.hx_fields.specs.declared.limits.TheConstants.{START_OF_YEAR_10000}
 use Rattle.hx_allow.specs.TableLines.{Table}
 use Rattle.hx_framing.specs.Text.{continue_text, request_text, request_line_text, field_lines_text, content_length_line, length_of_content, connection_close_line, crlf, content_bytes}
 use Rattle.hx_framing.specs.declared.messages.Request.{Request}
@@ -28,13 +28,13 @@ use Rattle.proxy_engine.specs.Beginnings.{engine_model_at_start, store_holding}
 use Rattle.proxy_engine.specs.State.{new_engine_model}
 use Rattle.proxy_engine.specs.Executions.{ExecutionStep, Worked, StepsLeadToModel, effects_of_steps}
 use Rattle.proxy_engine.specs.declared.work.End.{End}
-use Rattle.proxy_engine_laws.specs.OneMessageEach.{StartCanBeServed, EachForwardIsOneRequest, EachReplyIsOneResponse, ForwardIsOneRequest, ReplyIsOneResponse, act_is_of_head_request}
+use Rattle.proxy_engine_laws.specs.OneMessageEach.{StoreAtStartCanBeServed, EachForwardIsOneRequest, EachReplyIsOneResponse, ForwardIsOneRequest, ReplyIsOneResponse, act_is_of_head_request}
 use Rattle.proxy_turn.specs.Calls.{Call, AcceptOutcome}
-use Rattle.proxy_turn.specs.Turn.{AcceptCall, NotAsked, Failed, NoneCame, Came, EndRead, EffectFate, Carried, Passed, Lost, ActWithEffectFates, HappeningIfAnyIsTaken, happening_of_loss, end_of_effect, EffectsAreCarriedOut, ActsAreCarriedOut, TurnIsDoneInOrder, calls_of_accept, calls_of_reads, calls_of_failed_forward, calls_of_effect, calls_of_effects, calls_of_rounds, calls_of_turn}
+use Rattle.proxy_turn.specs.Turn.{AcceptOutcomeIfCalled, NotAsked, Failed, NoneCame, Came, EndRead, EffectFate, Carried, Passed, Lost, ActWithEffectFates, HappeningIfAnyIsTaken, happening_of_loss, end_of_effect, EffectsAreHandledWithFates, ActsAreDoneWithEffectFates, TurnIsDoneInOrder, calls_of_accept, calls_of_reads, calls_of_failed_forward, calls_of_effect, calls_of_effects, calls_of_rounds, calls_of_turn}
 use Rattle.proxy_turn.specs.TurnSteps.{step_of_happening_if_any, steps_of_lost_ends, steps_of_turn, TurnStepsAreExecuted}
-use Rattle.proxy_turn.specs.Over.{TurnOverEndsIsDoneInOrder, calls_of_accepts, calls_of_turn_over_ends}
-use Rattle.proxy_turn.specs.OverSteps.{steps_of_turn_over_ends, TurnOverEndsStepsAreExecuted}
-use Rattle.proxy_turn_laws.specs.WritesOfATurn.{CallWritesOneMessage, EachWriteOfATurnIsOneMessage, EachWriteOfAWholeTurnIsOneMessage, ATurnWritesNothingElse, NoRequestIsEmpty, TwoRequestsAreNoWriteOfATurn, NothingIsWrittenToTheListener}
+use Rattle.proxy_turn.specs.Over.{TurnOverGivenEndsIsDoneInOrder, calls_of_accepts, calls_of_turn_over_given_ends}
+use Rattle.proxy_turn.specs.OverSteps.{steps_of_turn_over_given_ends, TurnOverGivenEndsStepsAreExecuted}
+use Rattle.proxy_turn_laws.specs.WritesOfATurn.{CallWritesOneMessage, EachWriteOfATurnIsOneMessage, EachWriteOfATurnOverAllIsOneMessage, ATurnWritesOnlyWholeMessages, NoRequestIsEmpty, NoWriteHoldsTwoRequests, NothingIsWrittenToTheListener}
 
 -- ---- lists
 
@@ -57,7 +57,7 @@ module _ (begin : EngineModel) where
   loss_executed past s None t executed takes = subst (StepsLeadToModel begin past) (sym takes) executed
   loss_executed past s (Some h) t executed takes = (s, executed, takes)
 
-  pub losses_executed : (es : List Effect) (fs : List EffectFate) (past : List ExecutionStep) (s : EngineModel) (gone : List End) (t : EngineModel) (more : List End) → StepsLeadToModel begin past s → EffectsAreCarriedOut s gone es fs t more → StepsLeadToModel begin (steps_of_lost_ends es fs past) t
+  pub losses_executed : (es : List Effect) (fs : List EffectFate) (past : List ExecutionStep) (s : EngineModel) (gone : List End) (t : EngineModel) (more : List End) → StepsLeadToModel begin past s → EffectsAreHandledWithFates s gone es fs t more → StepsLeadToModel begin (steps_of_lost_ends es fs past) t
   losses_executed [] [] past s gone t more executed here = subst (StepsLeadToModel begin past) (sym here.0) executed
   losses_executed [] (f ∷ fs) past s gone t more executed out = absurd out
   losses_executed (e ∷ es) [] past s gone t more executed out = absurd out
@@ -109,7 +109,7 @@ module _ (name : List ℕ) where
   accepts_written n [] = tt
   accepts_written n (a ∷ xs) = (tt, accepts_written (n + 1) xs)
 
-  accept_written : (s : EngineModel) (asked : AcceptCall) → AllByRecursion Writes (calls_of_accept s asked)
+  accept_written : (s : EngineModel) (asked : AcceptOutcomeIfCalled) → AllByRecursion Writes (calls_of_accept s asked)
   accept_written s NotAsked = tt
   accept_written s Failed = (tt, tt)
   accept_written s NoneCame = (tt, tt)
@@ -127,7 +127,7 @@ module _ (name : List ℕ) where
 
 -- ---- the rounds of a turn
 
-module _ (forwards : EachForwardIsOneRequest) (replies : EachReplyIsOneResponse) (table : Table) (start : StoreAtStart) (first link now : ℕ) (read : TableWasRead table) (sound : StartCanBeServed table start first) (early : now < END_OF_TIME) where
+module _ (forwards : EachForwardIsOneRequest) (replies : EachReplyIsOneResponse) (table : Table) (start : StoreAtStart) (first link now : ℕ) (read : TableWasRead table) (sound : StoreAtStartCanBeServed table start first) (early : now < START_OF_YEAR_10000) where
   abbrev begin_of : EngineModel
   begin_of = new_engine_model (core_begun table start first) link
 
@@ -139,7 +139,7 @@ module _ (forwards : EachForwardIsOneRequest) (replies : EachReplyIsOneResponse)
       (recursion_from_All (Contains all) all (All-contains_itself all)) in
       behind_all (ForwardIsOneRequest table.name) (effects_of_steps past) emitted (subst (AllByRecursion (ForwardIsOneRequest table.name)) all_are each)
 
-  rounds_written : (rs : List ActWithEffectFates) (past : List ExecutionStep) (s : EngineModel) (gone : List End) (t : EngineModel) (more : List End) → StepsLeadToModel begin_of past s → ActsAreCarriedOut now s gone rs t more → AllByRecursion (CallWritesOneMessage table.name) (calls_of_rounds rs)
+  rounds_written : (rs : List ActWithEffectFates) (past : List ExecutionStep) (s : EngineModel) (gone : List End) (t : EngineModel) (more : List End) → StepsLeadToModel begin_of past s → ActsAreDoneWithEffectFates now s gone rs t more → AllByRecursion (CallWritesOneMessage table.name) (calls_of_rounds rs)
   rounds_written [] past s gone t more executed here = tt
   rounds_written (r ∷ rs) past s gone t more executed w =
       let step = Worked now r.act r.emitted in
@@ -153,11 +153,11 @@ pub without_rounds : {A : Type 0} (reads : List EndRead) (rounds : List ActWithE
 without_rounds reads rounds (inl is) = inl is
 without_rounds reads rounds (inr are) = inr (are.0, refl)
 
-pub writes_one_message_each : EachForwardIsOneRequest → EachReplyIsOneResponse → TurnOverEndsStepsAreExecuted → EachWriteOfATurnIsOneMessage
+pub writes_one_message_each : EachForwardIsOneRequest → EachReplyIsOneResponse → TurnOverGivenEndsStepsAreExecuted → EachWriteOfATurnIsOneMessage
 writes_one_message_each forwards replies lives e held first link steps now bounds s given accepts reads rest rounds t read begins executed early turn =
     let name = e.core.table.name in
     let begin = engine_model_at_start e.core.table held first link in
-    let before : TurnOverEndsIsDoneInOrder now bounds s given accepts reads rest [] turn.read = record {
+    let before : TurnOverGivenEndsIsDoneInOrder now bounds s given accepts reads rest [] turn.read = record {
       begun = turn.begun;
       read = turn.read;
       gone = failed_links turn.read;
@@ -170,13 +170,13 @@ writes_one_message_each forwards replies lives e held first link steps now bound
       accepts_come_first = without_rounds reads rounds turn.accepts_come_first;
       reads_come_before_acts = inr refl;
     } in
-    let lived : StepsLeadToModel begin (steps_of_turn_over_ends now s accepts reads [] steps) turn.read = lives begin steps now bounds s given accepts reads rest [] turn.read executed.executes before in
-    All-from_recursion (CallWritesOneMessage name) (calls_of_turn_over_ends s accepts reads rounds)
+    let lived : StepsLeadToModel begin (steps_of_turn_over_given_ends now s accepts reads [] steps) turn.read = lives begin steps now bounds s given accepts reads rest [] turn.read executed.executes before in
+    All-from_recursion (CallWritesOneMessage name) (calls_of_turn_over_given_ends s accepts reads rounds)
     (both_all (CallWritesOneMessage name) (calls_of_accepts (length s.connections + 1) accepts) (calls_of_reads reads ++ calls_of_rounds rounds) (accepts_written name (length s.connections + 1) accepts)
     (both_all (CallWritesOneMessage name) (calls_of_reads reads) (calls_of_rounds rounds) (reads_written name reads)
-    (rounds_written forwards replies e.core.table (store_holding e.core.table held) first link now read (record { stands = executed.begins; can_be_sent = begins }) early rounds (steps_of_turn_over_ends now s accepts reads [] steps) turn.read (failed_links turn.read) t turn.gone lived turn.works)))
+    (rounds_written forwards replies e.core.table (store_holding e.core.table held) first link now read (record { stands = executed.begins; can_be_sent = begins }) early rounds (steps_of_turn_over_given_ends now s accepts reads [] steps) turn.read (failed_links turn.read) t turn.gone lived turn.works)))
 
-pub whole_turns_write_one_message_each : EachForwardIsOneRequest → EachReplyIsOneResponse → TurnStepsAreExecuted → EachWriteOfAWholeTurnIsOneMessage
+pub whole_turns_write_one_message_each : EachForwardIsOneRequest → EachReplyIsOneResponse → TurnStepsAreExecuted → EachWriteOfATurnOverAllIsOneMessage
 whole_turns_write_one_message_each forwards replies lives e held first link steps now s asked reads rest rounds t read begins executed early turn =
     let name = e.core.table.name in
     let begin = engine_model_at_start e.core.table held first link in
@@ -203,9 +203,9 @@ whole_turns_write_one_message_each forwards replies lives e held first link step
 contained : {X : Type 0} (P : X → Type 0) (xs : List X) (x : X) → All P xs → Contains xs x → P x
 contained P xs x all has = subst P has.2 (all has.0 x has.1)
 
-pub nothing_else_is_written : EachWriteOfATurnIsOneMessage → ATurnWritesNothingElse
+pub nothing_else_is_written : EachWriteOfATurnIsOneMessage → ATurnWritesOnlyWholeMessages
 nothing_else_is_written each e held first link steps now bounds s given accepts reads rest rounds t other read begins executed early none has turn =
-    none (contained (CallWritesOneMessage e.core.table.name) (calls_of_turn_over_ends s accepts reads rounds) other (each e held first link steps now bounds s given accepts reads rest rounds t read begins executed early turn) has)
+    none (contained (CallWritesOneMessage e.core.table.name) (calls_of_turn_over_given_ends s accepts reads rounds) other (each e held first link steps now bounds s given accepts reads rest rounds t read begins executed early turn) has)
 
 left_empty : (xs ys : List ℕ) → [] ≡ xs ++ ys → [] ≡ xs
 left_empty [] ys h = refl
@@ -227,7 +227,7 @@ text_not_empty r h =
 pub no_request_is_empty : NoRequestIsEmpty
 no_request_is_empty name l replied done one = text_not_empty (forwarded_of one.keeps one.asked name one.conditions) one.text_is
 
-pub two_are_not_one : OneRequestIsNeitherTwoNorAPart → TwoRequestsAreNoWriteOfATurn
+pub two_are_not_one : OneRequestIsNeitherTwoNorAPart → NoWriteHoldsTwoRequests
 two_are_not_one no_more name one other l most replied done first second small within both within_both =
     let reading = subst (λ (bytes : List ℕ). ReadsRequest most false false bytes (Spelled (request_as_read_back (forwarded_of both.keeps both.asked name both.conditions)) [])) (append-nil (one ++ other)) (both.alone most small within_both false false []) in
     let found = no_more name one other first most false false (request_as_read_back (forwarded_of both.keeps both.asked name both.conditions)) [] small within reading in

@@ -25,7 +25,7 @@ use Rattle.proxy_script.specs.declared.effect_list.Effect.{Effect}
 use Rattle.proxy_script.specs.declared.effect_list.Effect.TheVariants as effects
 use Rattle.hx_hop.specs.declared.request_view.Asked.{Asked}
 use Rattle.proxy_engine.specs.Admitted.{CoreIsHandedRequest}
-use Rattle.proxy_engine.specs.ConnectionNumbers.{connection_number}
+use Rattle.proxy_engine.specs.ConnectionNumbers.{connection_number_of_place}
 use Rattle.proxy_engine.specs.EngineModel.{EngineModel}
 use Rattle.proxy_engine.specs.Due.{Act, Abandons, Finishes, Wakes, Serves}
 use Rattle.proxy_engine.specs.State.{new_engine_model}
@@ -58,31 +58,31 @@ final_replies_to n (effects.Close m ∷ rest) = final_replies_to n rest
 final_replies_to n (effects.Drop l ∷ rest) = final_replies_to n rest
 
 -- a stream that ends amid a request has asked nothing; any other fault is answered
-abbrev pub dialogue_of_fault : FrameFault → List DialogueEvent
-dialogue_of_fault frame.Truncated = []
-dialogue_of_fault frame.Head = RequestCame (next.Refused frame.Head) ∷ []
-dialogue_of_fault frame.Version = RequestCame (next.Refused frame.Version) ∷ []
-dialogue_of_fault frame.BothLengths = RequestCame (next.Refused frame.BothLengths) ∷ []
-dialogue_of_fault frame.Length = RequestCame (next.Refused frame.Length) ∷ []
-dialogue_of_fault frame.Coding = RequestCame (next.Refused frame.Coding) ∷ []
-dialogue_of_fault frame.Chunk = RequestCame (next.Refused frame.Chunk) ∷ []
-dialogue_of_fault frame.TooLarge = RequestCame (next.Refused frame.TooLarge) ∷ []
-dialogue_of_fault frame.Expect = RequestCame (next.Refused frame.Expect) ∷ []
-dialogue_of_fault frame.Status = RequestCame (next.Refused frame.Status) ∷ []
+abbrev pub dialogue_events_of_fault : FrameFault → List DialogueEvent
+dialogue_events_of_fault frame.Truncated = []
+dialogue_events_of_fault frame.Head = RequestCame (next.Refused frame.Head) ∷ []
+dialogue_events_of_fault frame.Version = RequestCame (next.Refused frame.Version) ∷ []
+dialogue_events_of_fault frame.BothLengths = RequestCame (next.Refused frame.BothLengths) ∷ []
+dialogue_events_of_fault frame.Length = RequestCame (next.Refused frame.Length) ∷ []
+dialogue_events_of_fault frame.Coding = RequestCame (next.Refused frame.Coding) ∷ []
+dialogue_events_of_fault frame.Chunk = RequestCame (next.Refused frame.Chunk) ∷ []
+dialogue_events_of_fault frame.TooLarge = RequestCame (next.Refused frame.TooLarge) ∷ []
+dialogue_events_of_fault frame.Expect = RequestCame (next.Refused frame.Expect) ∷ []
+dialogue_events_of_fault frame.Status = RequestCame (next.Refused frame.Status) ∷ []
 
 -- what an act says on the connection at this place, the latest first
 abbrev pub dialogue_of_act : ℕ → Act → List Effect → List DialogueEvent
 dialogue_of_act i (Abandons k l) emitted =
-    replies_to (connection_number i) emitted ++ cond (k == i) (ClientLeft ∷ []) []
-dialogue_of_act i (Finishes j finish) emitted = replies_to (connection_number i) emitted
-dialogue_of_act i (Wakes k) emitted = replies_to (connection_number i) emitted
-dialogue_of_act i (Serves k next.More) emitted = replies_to (connection_number i) emitted
-dialogue_of_act i (Serves k next.NeedsContinue) emitted = final_replies_to (connection_number i) emitted
+    replies_to (connection_number_of_place i) emitted ++ cond (k == i) (ClientLeft ∷ []) []
+dialogue_of_act i (Finishes j finish) emitted = replies_to (connection_number_of_place i) emitted
+dialogue_of_act i (Wakes k) emitted = replies_to (connection_number_of_place i) emitted
+dialogue_of_act i (Serves k next.More) emitted = replies_to (connection_number_of_place i) emitted
+dialogue_of_act i (Serves k next.NeedsContinue) emitted = final_replies_to (connection_number_of_place i) emitted
 dialogue_of_act i (Serves k (next.Message r)) emitted =
-    replies_to (connection_number i) emitted ++ cond (k == i) (RequestCame (next.Message r) ∷ []) []
+    replies_to (connection_number_of_place i) emitted ++ cond (k == i) (RequestCame (next.Message r) ∷ []) []
 dialogue_of_act i (Serves k (next.Refused fault)) emitted =
-    replies_to (connection_number i) emitted ++ cond (k == i) (dialogue_of_fault fault) []
-dialogue_of_act i (Serves k next.End) emitted = replies_to (connection_number i) emitted
+    replies_to (connection_number_of_place i) emitted ++ cond (k == i) (dialogue_events_of_fault fault) []
+dialogue_of_act i (Serves k next.End) emitted = replies_to (connection_number_of_place i) emitted
 
 abbrev pub dialogue_of_steps : ℕ → List ExecutionStep → List DialogueEvent
 dialogue_of_steps i [] = []
@@ -137,11 +137,12 @@ RepliesFollowRequests =
     (table : Table) (start : StoreAtStart) (first link : ℕ) (steps : List ExecutionStep) (t : EngineModel) (i : ℕ)
     → StepsLeadToModel (new_engine_model (core_begun table start first) link) steps t
     → (standing : DialogueState) × DialogueIsInState standing (dialogue_of_steps i steps)
-    × LastRequestIsOpen standing (dialogue_of_steps i steps) (find_exchange (connection_number i) t.core.exchanges)
+    × LastRequestIsOpen standing (dialogue_of_steps i steps)
+    (find_exchange (connection_number_of_place i) t.core.exchanges)
 
 -- so a client has as many replies as it sent requests, or one fewer
-abbrev pub EachRequestHasOneReply : Type 0
-EachRequestHasOneReply =
+abbrev pub RepliesEqualRequestsOrOneFewer : Type 0
+RepliesEqualRequestsOrOneFewer =
     (standing : DialogueState) (said : List DialogueEvent) → DialogueIsInState standing said
     → (count_of_replies_in_dialogue said ≤ count_of_requests_in_dialogue said)
     × (count_of_requests_in_dialogue said ≤ count_of_replies_in_dialogue said + 1)
@@ -157,8 +158,8 @@ abbrev pub NoReplyWithoutARequest : Type 0
 NoReplyWithoutARequest = (standing : DialogueState) (bytes : List ℕ)
     → DialogueIsInState standing (ReplyWent bytes ∷ []) → ⊥
 
-abbrev pub NoRequestIsLeftUnanswered : Type 0
-NoRequestIsLeftUnanswered =
+abbrev pub NoRequestIsPassedOverByALaterOne : Type 0
+NoRequestIsPassedOverByALaterOne =
     (standing : DialogueState) (one other : Next Request) (past : List DialogueEvent)
     → DialogueIsInState standing (RequestCame one ∷ RequestCame other ∷ past) → ⊥
 
@@ -169,11 +170,11 @@ NothingFollowsALeave =
     × (DialogueIsInState standing (ReplyWent bytes ∷ ClientLeft ∷ past) → ⊥)
 
 -- A refused life: one act that writes two replies to its client. No engine lives by such a step.
-abbrev pub NoActAnswersTwice : Type 0
-NoActAnswersTwice =
+abbrev pub NoActRepliesTwiceToAClient : Type 0
+NoActRepliesTwiceToAClient =
     (table : Table) (start : StoreAtStart) (first link now i : ℕ) (past : List ExecutionStep) (one other : List ℕ)
     (of_one of_other : Option ReplyData) (t : EngineModel)
     → StepsLeadToModel (new_engine_model (core_begun table start first) link)
-    (Worked now (Wakes i) (effects.Client (connection_number i) one of_one
-    ∷ effects.Client (connection_number i) other of_other ∷ []) ∷ past) t
+    (Worked now (Wakes i) (effects.Client (connection_number_of_place i) one of_one
+    ∷ effects.Client (connection_number_of_place i) other of_other ∷ []) ∷ past) t
     → ⊥

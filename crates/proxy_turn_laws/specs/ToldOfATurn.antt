@@ -9,7 +9,7 @@ use Rattle.proxy_engine.specs.declared.work.End.TheVariants as ends
 use Rattle.proxy_turn.specs.Calls as call
 use Rattle.proxy_turn.specs.Calls.{Call, AcceptOutcome}
 use Rattle.proxy_turn.specs.Turn.{EndRead, ActWithEffectFates}
-use Rattle.proxy_turn.specs.Over.{calls_of_turn_over_ends}
+use Rattle.proxy_turn.specs.Over.{calls_of_turn_over_given_ends}
 
 -- to a client the bytes of an effect of one of these acts, with what it tells of them; of a request on a link nothing
 -- is told
@@ -27,4 +27,4 @@ CallReportsItsEffect rounds (call.Shut end done) = Unit {0}
 abbrev pub EachWriteReportsItsEffect : Type 0
 EachWriteReportsItsEffect =
     (s : EngineModel) (accepts : List AcceptOutcome) (reads : List EndRead) (rounds : List ActWithEffectFates)
-    → All (CallReportsItsEffect rounds) (calls_of_turn_over_ends s accepts reads rounds)
+    → All (CallReportsItsEffect rounds) (calls_of_turn_over_given_ends s accepts reads rounds)

@@ -1,6 +1,6 @@
 //! A client, the proxy and an origin over loopback, in one thread.
 
-use hx_allow::Config;
+use hx_allow::Table;
 use hx_store::ListShelf;
 use proxy_server::{Limits, ListenAt, LiveSockets, Server};
 use std::alloc::Global;
@@ -14,11 +14,11 @@ use std::time::Duration;
 const ANSWER: &[u8] =
     b"HTTP/1.1 200 OK\r\nCache-Control: max-age=600\r\nContent-Length: 2\r\n\r\nhi";
 
-fn table_for(alloc: Global, origin: SocketAddr) -> Result<Config, Fail> {
+fn table_for(alloc: Global, origin: SocketAddr) -> Result<Table, Fail> {
     let text = format!(in alloc;
         "version = 1\nname = \"edge\"\ncapacity = 2\nmax_body = 1000\nmax_stored = 1000\n[[line]]\nhost = \"*\"\nmethods = [\"GET\"]\npath = \"/\"\norigin = \"{origin}\"\n"
     )?;
-    Ok(Config::read(alloc, text.as_bytes()).ok().ok_or("a table")?)
+    Ok(Table::read(alloc, text.as_bytes()).ok().ok_or("a table")?)
 }
 
 /// A server before that origin, which records nothing, and its address. An end may be silent for so many seconds.
@@ -86,7 +86,7 @@ fn ask_once<R: Abort + Clock + Net>(
     let mut buf = [0u8; 4096];
     let mut got = 0usize;
     for _ in 0..1000u32 {
-        assert!(rt; server.serve_turn(rt).is_ok());
+        assert!(rt; server.wait_and_serve_turn(rt).is_ok());
         if let Ok((stream, _)) = origin.accept() {
             asked = asked.saturating_add(1);
             answer(stream)?;
@@ -138,7 +138,7 @@ fn fall_silent<R: Abort + Clock + Net>(
     let mut buf = [0u8; 4096];
     let mut got = 0usize;
     for _ in 0..20u32 {
-        assert!(rt; server.serve_turn(rt).is_ok());
+        assert!(rt; server.wait_and_serve_turn(rt).is_ok());
         if let Ok(n) = client.read(&mut buf) {
             got = n;
             break;
@@ -147,7 +147,7 @@ fn fall_silent<R: Abort + Clock + Net>(
     assert!(rt; got <= 4096 && contains(&buf[..got], b"HTTP/1.1 504 "));
     assert!(rt; contains(&buf[..got], b"Refusal: origin timed-out;fwd=uri-miss\r\n"));
     for _ in 0..4u32 {
-        assert!(rt; server.serve_turn(rt).is_ok());
+        assert!(rt; server.wait_and_serve_turn(rt).is_ok());
     }
     idle.set_read_timeout(Some(Duration::from_secs(5)))?;
     assert!(rt; idle.read(&mut buf)? == 0);

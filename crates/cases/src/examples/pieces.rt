@@ -1,6 +1,6 @@
 //! A script in which everything comes one byte at a time.
 
-use proxy_script::{Happening, Item, LeadingItem, read_item};
+use proxy_script::{Happening, Item, LeadingItemReading, read_item};
 use std::alloc::{AllocError, Global};
 
 fn push_bytes(
@@ -27,7 +27,7 @@ pub fn byte_by_byte(alloc: Global, script: &[u8]) -> Result<Vec<u8>, AllocError>
     let mut first = true;
     // Each item has a byte at least.
     for _ in 0..script.len() {
-        let LeadingItem::Found(item, more) = read_item(first, rest) else {
+        let LeadingItemReading::Found(item, more) = read_item(first, rest) else {
             break;
         };
         match item {

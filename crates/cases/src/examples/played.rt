@@ -1,7 +1,7 @@
 //! What the replay of a script gives.
 
 use crate::text::Effect;
-use proxy_replay::{ReplayFault, replay, replay_on_list};
+use proxy_replay::{ReplayFault, replay, replay_over_list_shelf};
 use std::alloc::{AllocError, Global};
 
 /// The text of a replay; the line of its fault stands behind it as a last effect.
@@ -27,6 +27,6 @@ pub fn played(alloc: Global, script: &[u8]) -> Result<Vec<u8>, AllocError> {
 pub fn played_on_list(alloc: Global, script: &[u8]) -> Result<Vec<u8>, AllocError> {
     let mut reader = script;
     let mut text = Vec::new(alloc);
-    let end = replay_on_list(alloc, &mut reader, &mut text);
+    let end = replay_over_list_shelf(alloc, &mut reader, &mut text);
     with_end(text, end)
 }

@@ -3,7 +3,7 @@
 use super::case_lines::{Entry, number_of};
 use super::form::FormFault;
 use crate::text::Effect;
-use hx_fields::END_OF_TIME;
+use hx_fields::START_OF_YEAR_10000;
 use hx_status::FailKind;
 use proxy_script::{Happening, Item};
 
@@ -38,7 +38,7 @@ fn happens(happening: Happening<'_>) -> Statement<'_> {
 
 fn moment<'a>(entry: &'a Entry<'_>, text: &str) -> Result<Statement<'a>, FormFault> {
     let moment = number_of(text)?;
-    if moment >= END_OF_TIME {
+    if moment >= START_OF_YEAR_10000 {
         return Err(FormFault::Number);
     }
     bare(entry, Statement::Plays(Item::At(moment)))

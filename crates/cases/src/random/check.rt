@@ -29,7 +29,9 @@ use super::replies::{
 };
 use super::requests::{Asked, has_clients_condition};
 use super::stored_answers::{Chosen, StoredAnswers};
-use super::tables::{Table, heeds_no_cache, is_address, is_past_the_store, lets_wait_for_stale};
+use super::tables::{
+    RandomTable, heeds_no_cache, is_address, is_past_the_store, lets_wait_for_stale,
+};
 use super::waiting::{
     Arrival, Exchange, Now, Suspect, Waiter, Woken, found, next_touched, overtake, possible_leaders,
 };
@@ -59,7 +61,7 @@ struct Check<'a> {
     held: StoredAnswers,
     /// Until when the last answer that was stored or sent for a target is fresh, the latest behind the others.
     fresh: Vec<(Asked, u64)>,
-    table: Table,
+    table: RandomTable,
     now: u64,
     /// The connection that is closed next, by what its reply said.
     closing: Option<u64>,
@@ -356,13 +358,13 @@ impl<'a> Check<'a> {
 
     /// Whether the table sends this request past the store.
     fn is_past(&self, asked: &Asked) -> bool {
-        self.table == Table::PartlyWithout
+        self.table == RandomTable::PartlyWithout
             && is_past_the_store(asked.method, asked.host, asked.path)
     }
 
     /// Whether the line of this request lets it wait for what is stale.
     fn lets_wait(&self, asked: &Asked) -> bool {
-        self.table == Table::WithWords && lets_wait_for_stale(asked.host, asked.path)
+        self.table == RandomTable::WithWords && lets_wait_for_stale(asked.host, asked.path)
     }
 
     /// Whether a request waits where one leads: a GET, over a line with the word without a no-cache that counts.
@@ -695,7 +697,7 @@ impl<'a> Check<'a> {
         source: Source,
         asked: &Asked,
     ) -> Result<(), Wrong> {
-        if self.table != Table::WithWords {
+        if self.table != RandomTable::WithWords {
             return Ok(());
         }
         match word_of_answer(head, source, asked.host) {

@@ -1,7 +1,7 @@
 //! What happened, as the script has it, and what the engine did.
 
 use super::requests::Asked;
-use super::tables::Table;
+use super::tables::RandomTable;
 use std::alloc::Global;
 
 /// What the check has to know of a happening.
@@ -38,7 +38,7 @@ pub struct Log {
     pub steps: Vec<Step>,
     /// The requests of all connections, those of each in their order.
     pub asked: Vec<Asked>,
-    pub table: Table,
+    pub table: RandomTable,
 }
 
 // By hand, so that a scope that ends is one call to the prover and not the drop of each part.
@@ -55,7 +55,7 @@ impl Drop for Log {
 }
 
 impl Log {
-    pub fn new(alloc: Global, table: Table) -> Self {
+    pub fn new(alloc: Global, table: RandomTable) -> Self {
         Log {
             script: Vec::new(alloc),
             effects: Vec::new(alloc),

@@ -6,7 +6,7 @@ use std::alloc::{AllocError, Global};
 
 /// The table of a trial.
 #[derive(Clone, Copy, PartialEq, Eq)]
-pub enum Table {
+pub enum RandomTable {
     /// Each line has a cache.
     WithCache,
     /// Some have none.
@@ -15,13 +15,13 @@ pub enum Table {
     WithWords,
 }
 
-impl Table {
+impl RandomTable {
     /// Its text. Few entries, so that some are evicted, and contents of 1,000 bytes at most.
     pub fn text(self, alloc: Global) -> Result<String, AllocError> {
         match self {
-            Table::WithCache => table_text(alloc, 1, 4, 500, &WITH_CACHE),
-            Table::PartlyWithout => table_text(alloc, 2, 4, 500, &PARTLY_WITHOUT),
-            Table::WithWords => table_text(alloc, 3, 4, 500, &WITH_WORDS),
+            RandomTable::WithCache => table_text(alloc, 1, 4, 500, &WITH_CACHE),
+            RandomTable::PartlyWithout => table_text(alloc, 2, 4, 500, &PARTLY_WITHOUT),
+            RandomTable::WithWords => table_text(alloc, 3, 4, 500, &WITH_WORDS),
         }
     }
 }

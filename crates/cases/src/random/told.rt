@@ -3,7 +3,9 @@
 use super::fields::last_value;
 use super::requests::Asked;
 use bstr::ByteSlice;
-use hx_status::{AskedTarget, Cause, Question, ReplyData, StatusAndReason, Told, push_reason};
+use hx_status::{
+    AskedTarget, Cause, MethodAndTarget, ReplyData, StatusAndReason, Told, push_reply_reason_text,
+};
 use std::alloc::{AllocError, Global};
 
 /// What the line says that the proxy adds by itself, as a log has it.
@@ -42,7 +44,7 @@ fn is_host(host: &[u8], written: &str) -> bool {
 }
 
 /// Whether it is what a request asks for.
-fn is_question_of(question: &Question, asked: &Asked) -> bool {
+fn is_question_of(question: &MethodAndTarget, asked: &Asked) -> bool {
     let names_target = match &question.target {
         AskedTarget::Uri(key) => {
             is_host(key.host.as_slice(), asked.host)
@@ -70,7 +72,7 @@ pub fn is_told(alloc: Global, bytes: &[u8], about: &StatusAndReason) -> Result<b
         return Ok(false);
     };
     let mut reason = Vec::new(alloc);
-    push_reason(&mut reason, &about.told)?;
+    push_reply_reason_text(&mut reason, &about.told)?;
     let told = match said(head) {
         Some(said) => said == reason.as_slice(),
         None => says_purged(head, reason.as_slice()),

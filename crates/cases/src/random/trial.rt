@@ -3,10 +3,10 @@
 use super::check::check_run;
 use super::counts::Counts;
 use super::log::Log;
-use super::tables::Table;
+use super::tables::RandomTable;
 use super::world::{Stopped, World};
 use super::wrong::Wrong;
-use proxy_replay::{ReplayFault, replay, replay_on_list};
+use proxy_replay::{ReplayFault, replay, replay_over_list_shelf};
 use std::alloc::Global;
 use std::io;
 
@@ -15,7 +15,7 @@ const FIRST_CHOICE: u64 = 20_261_123;
 
 const HAPPENINGS: usize = 10_000;
 
-fn make(alloc: Global, table: Table) -> Result<Log, Stopped> {
+fn make(alloc: Global, table: RandomTable) -> Result<Log, Stopped> {
     let mut world = World::new(alloc, table, FIRST_CHOICE)?;
     for _ in 0..HAPPENINGS {
         world.step()?;
@@ -27,7 +27,7 @@ fn make(alloc: Global, table: Table) -> Result<Log, Stopped> {
 const BETWEEN_RESTARTS: usize = 40;
 
 /// The same by processes that go on one after another, each over the store that the one before has written.
-fn make_with_restarts(alloc: Global, table: Table) -> Result<Log, Stopped> {
+fn make_with_restarts(alloc: Global, table: RandomTable) -> Result<Log, Stopped> {
     let mut world = World::new(alloc, table, FIRST_CHOICE)?;
     for _ in 0..HAPPENINGS / BETWEEN_RESTARTS {
         for _ in 0..BETWEEN_RESTARTS {
@@ -110,7 +110,7 @@ fn replayed(alloc: Global, script: &[u8]) -> Result<(Vec<u8>, Vec<u8>), ReplayFa
     replay(alloc, &mut reader, &mut text)?;
     let mut reader = script;
     let mut listed = Vec::new(alloc);
-    replay_on_list(alloc, &mut reader, &mut listed)?;
+    replay_over_list_shelf(alloc, &mut reader, &mut listed)?;
     Ok((text, listed))
 }
 
@@ -134,7 +134,7 @@ fn judge<R: Print + Eprint + AllocGlobal>(rt: &R, log: &Log) -> io::Result<bool>
     )
 }
 
-fn play<R: Print + Eprint + AllocGlobal>(rt: &R, table: Table) -> io::Result<bool> {
+fn play<R: Print + Eprint + AllocGlobal>(rt: &R, table: RandomTable) -> io::Result<bool> {
     match make(rt.alloc(), table) {
         Ok(log) => judge(rt, &log),
         Err(stopped) => {
@@ -145,7 +145,7 @@ fn play<R: Print + Eprint + AllocGlobal>(rt: &R, table: Table) -> io::Result<boo
 }
 
 /// Whether processes that go on one after another do what one alone does.
-fn restart<R: Print + Eprint + AllocGlobal>(rt: &R, table: Table) -> io::Result<bool> {
+fn restart<R: Print + Eprint + AllocGlobal>(rt: &R, table: RandomTable) -> io::Result<bool> {
     let log = match make_with_restarts(rt.alloc(), table) {
         Ok(log) => log,
         Err(stopped) => {
@@ -172,11 +172,15 @@ fn restart<R: Print + Eprint + AllocGlobal>(rt: &R, table: Table) -> io::Result<
 
 /// Prints of each trial whether the property holds, or what doesn't, and tells whether it does in all.
 pub fn run<R: Print + Eprint + AllocGlobal>(rt: &R) -> io::Result<bool> {
-    let with_cache = play(rt, Table::WithCache)?;
-    let partly_without = play(rt, Table::PartlyWithout)?;
-    let with_words = play(rt, Table::WithWords)?;
+    let with_cache = play(rt, RandomTable::WithCache)?;
+    let partly_without = play(rt, RandomTable::PartlyWithout)?;
+    let with_words = play(rt, RandomTable::WithWords)?;
     let mut restarted = true;
-    for table in [Table::WithCache, Table::PartlyWithout, Table::WithWords] {
+    for table in [
+        RandomTable::WithCache,
+        RandomTable::PartlyWithout,
+        RandomTable::WithWords,
+    ] {
         restarted = restart(rt, table)? && restarted;
     }
     Ok(with_cache && partly_without && with_words && restarted)

@@ -6,16 +6,16 @@ use super::dice::Dice;
 use super::life::Life;
 use super::log::{Log, Occurred, Step};
 use super::requests::{Asked, push_request};
-use super::tables::Table;
+use super::tables::RandomTable;
 use super::told::{is_told, is_told_of};
 use crate::text::push_item;
-use hx_allow::Config;
+use hx_allow::Table;
 use hx_status::{FailKind, ReplyData};
 use hx_store::ListShelf;
 use proxy_engine::{Engine, EngineFault, Work};
 use proxy_kept_store::read_kept_store;
 use proxy_script::{Effect, Happening, Item, effects_text};
-use proxy_store_file::{StoreFault, WriteFault, write_store};
+use proxy_store_file::{StoreReadFault, WriteFault, write_and_empty_store};
 use std::alloc::{AllocError, Global};
 use std::{fmt, mem};
 
@@ -235,12 +235,12 @@ fn happening_at_an_ended_end(
 
 /// The file of the store of a process that ends.
 fn written(alloc: Global, engine: Engine<ListShelf>) -> Result<Vec<u8>, Stopped> {
-    let (mut shelf, next) = engine.into_shelf_and_serial();
+    let (mut shelf, next) = engine.into_shelf_and_next_serial();
     let Some(next) = next else {
         return Err(Stopped::NoRestart);
     };
     let mut file = Vec::new(alloc);
-    match write_store(alloc, next, &mut shelf, &mut file) {
+    match write_and_empty_store(alloc, next, &mut shelf, &mut file) {
         Ok(()) => Ok(file),
         Err(WriteFault::OutOfMemory) => Err(Stopped::OutOfMemory),
         Err(_) => Err(Stopped::NoRestart),
@@ -249,7 +249,7 @@ fn written(alloc: Global, engine: Engine<ListShelf>) -> Result<Vec<u8>, Stopped>
 
 /// A process that begins with the file of a store.
 fn begun(alloc: Global, table: &[u8], file: &[u8]) -> Result<Engine<ListShelf>, Stopped> {
-    let config = match Config::read(alloc, table) {
+    let config = match Table::read(alloc, table) {
         Ok(config) => config,
         Err(_) => return Err(Stopped::Refused),
     };
@@ -257,16 +257,16 @@ fn begun(alloc: Global, table: &[u8], file: &[u8]) -> Result<Engine<ListShelf>, 
     let mut reader = file;
     match read_kept_store(alloc, &config, &mut shelf, &mut reader) {
         Ok(first) => Ok(Engine::with_store(alloc, config, shelf, first, 1)),
-        Err(StoreFault::OutOfMemory) => Err(Stopped::OutOfMemory),
+        Err(StoreReadFault::OutOfMemory) => Err(Stopped::OutOfMemory),
         Err(_) => Err(Stopped::NoRestart),
     }
 }
 
 impl World {
     /// Nothing has happened yet; the script has its table.
-    pub fn new(alloc: Global, table: Table, beginning: u64) -> Result<Self, Stopped> {
+    pub fn new(alloc: Global, table: RandomTable, beginning: u64) -> Result<Self, Stopped> {
         let text = table.text(alloc)?;
-        let config = match Config::read(alloc, text.as_bytes()) {
+        let config = match Table::read(alloc, text.as_bytes()) {
             Ok(config) => config,
             Err(_) => return Err(Stopped::Refused),
         };

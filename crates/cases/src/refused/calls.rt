@@ -3,7 +3,7 @@
 use super::entries::{entry, key};
 use super::stop::Stop;
 use http::Method;
-use hx_allow::{Config, RequestRoute, Verdict};
+use hx_allow::{RouteOverLine, Table, Verdict};
 use hx_fields::{Bytes, Fields};
 use hx_framing::Request;
 use hx_hop::{Asked, ask};
@@ -102,7 +102,7 @@ fn request(alloc: Global) -> Result<Asked, Stop> {
 
 /// A core at which a request is open.
 fn core(alloc: Global, asked: &Asked) -> Result<Core<ListShelf>, Stop> {
-    let Ok(config) = Config::read(alloc, TABLE.as_bytes()) else {
+    let Ok(config) = Table::read(alloc, TABLE.as_bytes()) else {
         return Err(Stop::NoMemory);
     };
     let shelf = ListShelf::new(alloc, config.capacity());
@@ -118,7 +118,7 @@ fn call_core(core: &mut Core<ListShelf>, asked: &Asked) -> Result<(), Stop> {
     let verdict = core
         .config()
         .judge(&asked.method, &asked.target, &asked.fields);
-    expect_that(verdict == Verdict::Allowed(RequestRoute::over(1)))?;
+    expect_that(verdict == Verdict::Allowed(RouteOverLine::over(1)))?;
     expect_that(matches!(core.abandon(1), Ok(Outcome::Ended)))?;
     expect_that(matches!(core.abandon(1), Err(CoreFault::UnknownId)))
 }

@@ -2,10 +2,10 @@
 ghost use Rattle.std.specs.Prelude.{◌≡◌, ◌<◌, [], IfOk};
 
 use super::stop::Stop;
-use hx_allow::{Config, ConfigFault};
+use hx_allow::{Table, TableFault};
 use hx_store::IndexedShelf;
 use proxy_engine::{Engine, EngineFault, Work};
-use proxy_script::{Effect, Happening, Item, LeadingItem, effects_text, read_item};
+use proxy_script::{Effect, Happening, Item, LeadingItemReading, effects_text, read_item};
 use std::alloc::Global;
 use std::io;
 use std::io::{Read, Write};
@@ -45,11 +45,11 @@ fn script<R: Input + AllocGlobal>(rt: &R) -> Result<Vec<u8>, Stop> {
     Ok(script)
 }
 
-fn config(alloc: Global, table: &[u8]) -> Result<Config, Stop> {
+fn config(alloc: Global, table: &[u8]) -> Result<Table, Stop> {
     for _ in 0..TRIES {
-        match Config::read(alloc, table) {
+        match Table::read(alloc, table) {
             Ok(config) => return Ok(config),
-            Err(ConfigFault::OutOfMemory) => {}
+            Err(TableFault::OutOfMemory) => {}
             Err(_) => return Err(Stop::Script),
         }
     }
@@ -148,7 +148,7 @@ fn play<R: Print + AllocGlobal>(rt: &R, proxy: &mut Proxy, items: &[u8]) -> Resu
     let mut rest = items;
     // Each item has a byte at least.
     for _ in 0..items.len() {
-        let LeadingItem::Found(item, more) = read_item(false, rest) else {
+        let LeadingItemReading::Found(item, more) = read_item(false, rest) else {
             break;
         };
         match item {
@@ -172,7 +172,7 @@ fn play<R: Print + AllocGlobal>(rt: &R, proxy: &mut Proxy, items: &[u8]) -> Resu
 pub fn run<R: Input + Print + AllocGlobal>(rt: &R) -> Result<(), Stop> {
     let script = script(rt)?;
     match read_item(true, script.as_slice()) {
-        LeadingItem::Found(Item::Config(table), items) => {
+        LeadingItemReading::Found(Item::Config(table), items) => {
             let mut proxy = proxy(rt.alloc(), table)?;
             play(rt, &mut proxy, items)
         }

@@ -7,9 +7,9 @@ ghost use Rattle.hx_framing.specs.declared.contents.chunk_tokens.ChunkPhase.TheV
 ghost use Rattle.hx_framing.specs.declared.contents.chunk_tokens.ChunkToken.TheVariants as token;
 ghost use Rattle.hx_framing.specs.declared.frame_fault.FrameFault.TheVariants as fault;
 ghost use Rattle.hx_framing.specs.ChunkGrammar.{has_no_lf};
-ghost use Rattle.hx_framing.specs.ChunkDecoder.{DataPhaseNeedsBytes, decoder_of_state};
+ghost use Rattle.hx_framing.specs.ChunkDecoder.{DataPhaseNeedsBytes, chunk_decoder_with_empty_line};
 ghost use Rattle.hx_framing.specs.Decoding.{ChunksAreDecoded};
-ghost use Rattle.hx_framing.specs.ChunkTokens.{ChunkTokenIsTaken, IsIndexOfFirstLineFeed, chunk_token_length};
+ghost use Rattle.hx_framing.specs.ChunkTokens.{ChunkTokenIsTaken, IsIndexOfFirstLineFeed, bytes_taken_by_chunk_token};
 
 use crate::contents::size_line::{chunk_size_of_line, ends_in_cr};
 use crate::frame_fault::FrameFault;
@@ -129,7 +129,8 @@ fn data_token(place: ChunkState, content: &mut Vec<u8>, bytes: &[u8]) -> ChunkTo
     requires need { 0 < place.need }
     requires room { vec_len content.now + length bytes.now ≤ vec_capacity content.now }
     ensures takes { ChunkTokenIsTaken place content.old.items bytes.now content.new.items result }
-    ensures room { vec_len content.new + (length bytes.now - chunk_token_length result) ≤ vec_capacity content.new }
+    ensures room { vec_len content.new +
+        (length bytes.now - bytes_taken_by_chunk_token result) ≤ vec_capacity content.new }
 {
     if bytes.is_empty() {
         return ChunkToken::Incomplete;
@@ -207,7 +208,8 @@ fn next_token(place: ChunkState, content: &mut Vec<u8>, bytes: &[u8], searched: 
     requires none { has_no_lf (take searched bytes.now) ≡ true }
     requires room { vec_len content.now + length bytes.now ≤ vec_capacity content.now }
     ensures takes { ChunkTokenIsTaken place content.old.items bytes.now content.new.items result }
-    ensures room { vec_len content.new + (length bytes.now - chunk_token_length result) ≤ vec_capacity content.new }
+    ensures room { vec_len content.new +
+        (length bytes.now - bytes_taken_by_chunk_token result) ≤ vec_capacity content.new }
 {
     match place.phase {
         ChunkPhase::Size => size_token(place, bytes, searched),
@@ -229,8 +231,8 @@ pub(crate) fn take_chunk_tokens(
     requires within { searched ≤ length bytes.now }
     requires none { has_no_lf (take searched bytes.now) ≡ true }
     requires room { vec_len content.now + length bytes.now ≤ vec_capacity content.now }
-    ensures decodes { ChunksAreDecoded (decoder_of_state place.old content.old.items) bytes.now
-        (decoder_of_state place.new content.new.items) result }
+    ensures decodes { ChunksAreDecoded (chunk_decoder_with_empty_line place.old content.old.items) bytes.now
+        (chunk_decoder_with_empty_line place.new content.new.items) result }
     ensures need { DataPhaseNeedsBytes place.new.phase place.new.need }
 {
     let mut taken = 0;

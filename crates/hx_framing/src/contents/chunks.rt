@@ -19,11 +19,11 @@ pub struct Chunks {
 }
 
 impl Model for Chunks {
-    ghost use Rattle.hx_framing.specs.ChunkDecoder.{ChunkDecoder, DataPhaseNeedsBytes, decoder_of_state};
+    ghost use Rattle.hx_framing.specs.ChunkDecoder.{ChunkDecoder, DataPhaseNeedsBytes, chunk_decoder_with_empty_line};
 
     ghost Value = { ChunkDecoder };
 
-    ghost view = { λ s. decoder_of_state s.place s.content.items };
+    ghost view = { λ s. chunk_decoder_with_empty_line s.place s.content.items };
 
     ghost invariant = { λ s. DataPhaseNeedsBytes s.place.phase s.place.need };
 }

@@ -7,7 +7,7 @@ ghost use Rattle.hx_framing.specs.ContentReading.{ContentIsReadFurther, bytes_be
 
 use crate::contents::chunk_tokens::ChunkProgress;
 use crate::contents::chunks::Chunks;
-use crate::contents::plain::PlainContentBuffer;
+use crate::contents::plain::UnchunkedContentBuffer;
 use crate::frame_fault::FrameFault;
 use crate::lengths::framing::Framing;
 use hx_fields::Bytes;
@@ -27,10 +27,10 @@ pub(crate) enum ContentProgress {
 pub enum Content {
     Nothing,
     /// As many bytes as were announced.
-    Announced(PlainContentBuffer),
+    Announced(UnchunkedContentBuffer),
     Chunked(Chunks),
     /// All until the stream's end, within a limit.
-    UntilClose(PlainContentBuffer),
+    UntilClose(UnchunkedContentBuffer),
 }
 
 /// One call drops it, wherever that is, so its cases stand in one proof alone.
@@ -52,9 +52,11 @@ impl Content {
     {
         match framing {
             Framing::Nothing => Content::Nothing,
-            Framing::Announced(n) => Content::Announced(PlainContentBuffer::start(alloc, n)),
+            Framing::Announced(n) => Content::Announced(UnchunkedContentBuffer::start(alloc, n)),
             Framing::Chunked => Content::Chunked(Chunks::start(alloc, max_body)),
-            Framing::UntilClose => Content::UntilClose(PlainContentBuffer::start(alloc, max_body)),
+            Framing::UntilClose => Content::UntilClose(UnchunkedContentBuffer::start(
+                alloc, max_body,
+            )),
         }
     }
 
@@ -74,7 +76,7 @@ impl Content {
     {
         match self {
             Content::Nothing => Ok(ContentProgress::Whole(None, 0)),
-            Content::Announced(plain) => plain.take_announced(alloc, bytes),
+            Content::Announced(plain) => plain.add_announced_bytes(alloc, bytes),
             Content::Chunked(chunks) => decode_chunks(chunks, alloc, bytes, searched),
             Content::UntilClose(plain) => plain.take_until_close(alloc, ended, bytes),
         }

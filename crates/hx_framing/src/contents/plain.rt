@@ -10,13 +10,13 @@ use std::mem;
 
 /// The content so far. Where it is full, room is made for as much again, but for no more than may come.
 #[derive(Drop)]
-pub struct PlainContentBuffer {
+pub struct UnchunkedContentBuffer {
     /// So many bytes may still come.
     left: u64,
     content: Vec<u8>,
 }
 
-impl Model for PlainContentBuffer {
+impl Model for UnchunkedContentBuffer {
     ghost use Rattle.hx_framing.specs.PlainContent.{PlainContent};
 
     ghost Value = { PlainContent };
@@ -24,16 +24,16 @@ impl Model for PlainContentBuffer {
     ghost view = { λ p. record { left = p.left; content = p.content.items } };
 }
 
-impl PlainContentBuffer {
-    ghost use Rattle.hx_framing.specs.PlainContent.{empty_plain_content, plain_content_with};
+impl UnchunkedContentBuffer {
+    ghost use Rattle.hx_framing.specs.PlainContent.{plain_content_not_begun, plain_content_after_bytes};
     ghost use Rattle.hx_framing.specs.declared.contents.content.Content.TheVariants as content;
     ghost use Rattle.hx_framing.specs.Contents.{ContentAdvances};
 
     /// A content of which nothing has come.
-    pub(crate) fn start(alloc: Global, left: u64) -> PlainContentBuffer
-        ensures { result ≡ empty_plain_content left }
+    pub(crate) fn start(alloc: Global, left: u64) -> UnchunkedContentBuffer
+        ensures { result ≡ plain_content_not_begun left }
     {
-        PlainContentBuffer {
+        UnchunkedContentBuffer {
             left,
             content: Vec::new(alloc),
         }
@@ -42,7 +42,7 @@ impl PlainContentBuffer {
     /// Takes a run of its bytes. An `Err` changes nothing.
     fn extend(&mut self, run: &[u8]) -> Result<(), AllocError>
         requires { length run.now ≤ self.old.left }
-        ensures ok { OnOk result (self.new ≡ plain_content_with self.old run.now) }
+        ensures ok { OnOk result (self.new ≡ plain_content_after_bytes self.old run.now) }
         ensures err { OnErr result (self.new ≡ self.old) }
     {
         if self.content.capacity() - self.content.len() < run.len() {
@@ -62,7 +62,7 @@ impl PlainContentBuffer {
     }
 
     /// Goes on with a content of a length that was announced. An `Err` changes nothing.
-    pub(crate) fn take_announced(
+    pub(crate) fn add_announced_bytes(
         &mut self,
         alloc: Global,
         bytes: &[u8],

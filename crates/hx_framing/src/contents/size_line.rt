@@ -5,11 +5,11 @@ ghost use Rattle.std.specs.Str.Parse.{digits_value};
 ghost use Rattle.hx_framing.specs.SizeLine.{begins_with_chunk_extension, is_chunk_extension_byte, is_chunk_extension};
 ghost use Rattle.hx_framing.specs.SizeLine.{leading_hex_digit_count, is_chunk_size_text};
 ghost use Rattle.hx_framing.specs.SizeLine.{ends_in_cr};
-ghost use Rattle.hx_framing.specs.SizeLine.{without_last_byte, number_at_most, chunk_size_of_line};
+ghost use Rattle.hx_framing.specs.SizeLine.{without_last_byte, number_if_at_most, chunk_size_of_line};
 
 use crate::frame_fault::FrameFault;
 use crate::limits::{MOST_CHUNK_EXTENSION_BYTES, MOST_CHUNK_SIZE_DIGITS};
-use hx_fields::number_up_to;
+use hx_fields::digits_value_if_at_most;
 
 fn is_chunk_extension_byte(b: u8) -> bool
     ensures { result ≡ is_chunk_extension_byte b }
@@ -91,5 +91,5 @@ pub(crate) fn chunk_size_of_line(line: &[u8], left: u64) -> Result<u64, FrameFau
         return Err(FrameFault::Chunk);
     }
     let (digits, _) = text.split_at(leading_hex_digit_count(text));
-    number_up_to(left, 16, digits).ok_or(FrameFault::TooLarge)
+    digits_value_if_at_most(left, 16, digits).ok_or(FrameFault::TooLarge)
 }

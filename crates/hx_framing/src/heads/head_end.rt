@@ -1,10 +1,11 @@
 //! Where the head of a message ends. The definitions are in `specs/HeadEnd.antt` and `specs/Searching.antt`.
 ghost use Rattle.std.specs.Prelude.{◌≡◌, ◌≤◌, ◌<◌, ◌+◌, ◌++◌, ℕ, List, length, drop, take, slice_index, IfSome};
-ghost use Rattle.hx_framing.specs.HeadEnd.{empty_line_at, empty_lines_from, head_end_at, empty_lines_length};
+ghost use Rattle.hx_framing.specs.HeadEnd.{leading_empty_line_length, empty_lines_end_from, head_end_size_at_front};
+ghost use Rattle.hx_framing.specs.HeadEnd.{empty_lines_length};
 ghost use Rattle.hx_framing.specs.HeadEnd.{head_end_from, head_length};
 ghost use Rattle.hx_framing.specs.Searching.{NoHeadEndsBeforeSearch, IsHeadSearchResult};
 
-use crate::heads::quiet_blocks::end_of_blocks_without_head_end;
+use crate::heads::quiet_blocks::end_of_blocks_without_empty_line;
 use crate::slices::{bytes_from_index, first_bytes};
 use memchr::memchr;
 
@@ -32,8 +33,8 @@ fn byte_at(bytes: &[u8], i: usize) -> u8
     if i < bytes.len() { bytes[i] } else { 0 }
 }
 
-fn empty_line_at(bytes: &[u8]) -> usize
-    ensures size { result ≡ empty_line_at bytes.now }
+fn leading_empty_line_length(bytes: &[u8]) -> usize
+    ensures size { result ≡ leading_empty_line_length bytes.now }
     ensures within { result ≤ length bytes.now }
 {
     if byte_at(bytes, 0) == b'\n' {
@@ -45,8 +46,8 @@ fn empty_line_at(bytes: &[u8]) -> usize
     }
 }
 
-fn head_end_at(bytes: &[u8]) -> usize
-    ensures size { result ≡ head_end_at bytes.now }
+fn head_end_size_at_front(bytes: &[u8]) -> usize
+    ensures size { result ≡ head_end_size_at_front bytes.now }
     ensures within { result ≤ length bytes.now }
 {
     if byte_at(bytes, 0) != b'\n' {
@@ -61,14 +62,14 @@ fn head_end_at(bytes: &[u8]) -> usize
 }
 
 /// Where the empty lines end, from an index on.
-fn empty_lines_from(bytes: &[u8], from: usize) -> usize
+fn empty_lines_end_from(bytes: &[u8], from: usize) -> usize
     requires { from ≤ length bytes.now }
-    ensures size { result ≡ empty_lines_from from (drop from bytes.now) }
+    ensures size { result ≡ empty_lines_end_from from (drop from bytes.now) }
     ensures within { result ≤ length bytes.now }
 {
     let mut at = from;
-    while empty_line_at(bytes_from_index(bytes, at)) > 0 {
-        at += empty_line_at(bytes_from_index(bytes, at));
+    while leading_empty_line_length(bytes_from_index(bytes, at)) > 0 {
+        at += leading_empty_line_length(bytes_from_index(bytes, at));
     }
     at
 }
@@ -78,7 +79,7 @@ pub(crate) fn empty_lines_length(bytes: &[u8]) -> usize
     ensures size { result ≡ empty_lines_length bytes.now }
     ensures within { result ≤ length bytes.now }
 {
-    empty_lines_from(bytes, 0)
+    empty_lines_end_from(bytes, 0)
 }
 
 /// Where the first empty line from an index on ends. Behind blocks without one the search goes from LF to LF.
@@ -88,10 +89,10 @@ fn head_end_from(bytes: &[u8], from: usize) -> Option<usize>
     ensures within { IfSome result (λ end. end ≤ length bytes.now) }
     ensures some { IfSome result (λ end. 0 < end) }
 {
-    let mut at = end_of_blocks_without_head_end(bytes, from);
+    let mut at = end_of_blocks_without_empty_line(bytes, from);
     while let Some(skipped) = memchr(b'\n', bytes_from_index(bytes, at)) {
         at += skipped;
-        let empty = head_end_at(bytes_from_index(bytes, at));
+        let empty = head_end_size_at_front(bytes_from_index(bytes, at));
         if empty > 0 {
             return Some(at + empty);
         }
@@ -125,7 +126,7 @@ pub(crate) fn search_head_end(bytes: &[u8], search: HeadSearch) -> HeadSearchRes
     if search.is_past_empty_lines {
         return search_lines(bytes, search.at);
     }
-    let first_line = empty_lines_from(bytes, search.at);
+    let first_line = empty_lines_end_from(bytes, search.at);
     if bytes.len() - first_line < 2 {
         return HeadSearchResult::Open(HeadSearch {
             at: first_line,

@@ -3,7 +3,7 @@ ghost use Rattle.std.specs.Prelude.{◌≡◌, ◌<◌, [], length, IfOk, Ok};
 ghost use Rattle.http_header.specs.Token.{IsToken};
 ghost use Rattle.httparse.specs.Grammar.{RequestHead, ReadsRequest};
 ghost use Rattle.httparse.specs.Spans.{IsRequestAt, IsRequestWithin, span_bytes};
-ghost use Rattle.hx_framing.specs.Head.{IsHeadOfRequest, head_at_spans, request_head_fault};
+ghost use Rattle.hx_framing.specs.Head.{IsHeadOfRequest, head_at_spans, fault_of_bad_request_head};
 ghost use Rattle.hx_framing.specs.declared.heads.request_head.Head.{Head};
 ghost use Rattle.hx_framing.specs.RequestReading.{request_of_head};
 
@@ -94,8 +94,8 @@ fn copy_head(
 }
 
 /// The fault of bytes that are no head.
-fn request_head_fault(bytes: &[u8]) -> FrameFault
-    ensures { result ≡ request_head_fault bytes.now }
+fn fault_of_bad_request_head(bytes: &[u8]) -> FrameFault
+    ensures { result ≡ fault_of_bad_request_head bytes.now }
 {
     if request_has_unsupported_version(bytes) {
         FrameFault::Version
@@ -135,6 +135,6 @@ impl HeadSpans for RequestSpans {
     }
 
     fn refuse(bytes: &[u8]) -> Result<Head, FrameFault> {
-        Err(request_head_fault(bytes))
+        Err(fault_of_bad_request_head(bytes))
     }
 }

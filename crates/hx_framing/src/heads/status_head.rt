@@ -4,7 +4,7 @@ ghost use Rattle.httparse.specs.Grammar.{ReadsResponse, ResponseHead};
 ghost use Rattle.httparse.specs.Spans.{IsResponseAt, IsResponseWithin};
 ghost use Rattle.hx_framing.specs.declared.heads.status_head.StatusHead.{StatusHead};
 ghost use Rattle.hx_framing.specs.declared.heads.status_head.Judged.TheVariants as judged;
-ghost use Rattle.hx_framing.specs.StatusHead.{IsStatusHead, status_head_at, status_head_fault};
+ghost use Rattle.hx_framing.specs.StatusHead.{IsWholeResponseHead, status_head_at, status_head_fault};
 
 use crate::frame_fault::FrameFault;
 use crate::heads::head_fields::fields_at_spans;
@@ -68,7 +68,7 @@ impl HeadSpans for ResponseSpans {
     type Judged = Judged;
 
     ghost Covers = { λ found bytes spans. IsResponseWithin bytes spans found
-        × ((h : ResponseHead) × IsStatusHead bytes h × IsResponseAt bytes spans found h) };
+        × ((h : ResponseHead) × IsWholeResponseHead bytes h × IsResponseAt bytes spans found h) };
 
     ghost Exceeds = { λ bytes most. (h : ResponseHead) → ReadsResponse bytes h [] → most < length h.fields };
 

@@ -4,7 +4,7 @@ ghost use Rattle.httparse.specs.Grammar.{RequestHead, ResponseHead, ReadsRequest
 ghost use Rattle.hx_framing.specs.declared.frame_fault.FrameFault.TheVariants as fault;
 ghost use Rattle.hx_framing.specs.Chunks.{most_trailer_bytes};
 ghost use Rattle.hx_framing.specs.Head as requests;
-ghost use Rattle.hx_framing.specs.Head.{head_of_parsed_request, request_head_fault};
+ghost use Rattle.hx_framing.specs.Head.{head_of_parsed_request, fault_of_bad_request_head};
 ghost use Rattle.hx_framing.specs.HeadEnd.{head_length, most_field_lines, most_head_bytes};
 ghost use Rattle.hx_framing.specs.Reading.{Incomplete, Faulty};
 ghost use Rattle.hx_framing.specs.RequestReading as request;
@@ -48,7 +48,7 @@ pub fn heads_have_at_most_100_lines()
         → requests.RequestHeadIsJudged bytes (Ok (head_of_parsed_request head)) }
     ensures long_request { (bytes : List ℕ) → (head : RequestHead) → ReadsRequest bytes head []
         → 100 < length head.fields
-        → requests.RequestHeadIsJudged bytes (Err (request_head_fault bytes)) }
+        → requests.RequestHeadIsJudged bytes (Err (fault_of_bad_request_head bytes)) }
     ensures response { (bytes : List ℕ) → (head : ResponseHead) → ReadsResponse bytes head [] → length head.fields ≤ 100
         → responses.ResponseHeadIsJudged bytes (Ok (status_head_of head)) }
     ensures long_response { (bytes : List ℕ) → (head : ResponseHead) → ReadsResponse bytes head []

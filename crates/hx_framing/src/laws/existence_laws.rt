@@ -11,7 +11,7 @@ ghost use Rattle.hx_framing.specs.declared.frame_fault.FrameFault.{FrameFault};
 ghost use Rattle.hx_framing.specs.Head as requests;
 ghost use Rattle.hx_framing.specs.StatusHead as responses;
 ghost use Rattle.hx_framing.specs.Progress.{Progress};
-ghost use Rattle.hx_framing.specs.Reading.{StreamReading};
+ghost use Rattle.hx_framing.specs.Reading.{StreamReadResult};
 ghost use Rattle.hx_framing.specs.RequestReading as request;
 ghost use Rattle.hx_framing.specs.RequestStream as request_stream;
 ghost use Rattle.hx_framing.specs.ResponseReading as response;
@@ -26,9 +26,9 @@ pub fn all_bytes_are_judged()
 {}
 
 /// Each request stream has a reading, and each that spells the requests given an answer.
-pub fn each_request_stream_is_read()
+pub fn each_request_stream_has_a_reading()
     ensures reading { (max_body : ℕ) → (ended : Bool) → (continue_sent : Bool) → (bytes : List ℕ)
-        → (reading : StreamReading Request) × request.ReadsAs max_body ended continue_sent bytes reading }
+        → (reading : StreamReadResult Request) × request.ReadsAs max_body ended continue_sent bytes reading }
     ensures answer { (p : Progress Request) → (rest : List ℕ)
         → request_stream.StreamSpells p.max_body p.stream p.given rest
         → (answer : Next Request) × request_stream.Answers p answer }
@@ -37,7 +37,7 @@ pub fn each_request_stream_is_read()
 /// Each response stream has a reading, and each that spells the response given an answer.
 pub fn each_response_stream_is_read()
     ensures reading { (max_body : ℕ) → (to_head : Bool) → (ended : Bool) → (bytes : List ℕ)
-        → (reading : StreamReading Response) × response.ReadsAs max_body to_head ended bytes reading }
+        → (reading : StreamReadResult Response) × response.ReadsAs max_body to_head ended bytes reading }
     ensures answer { (p : Progress Response) → response_stream.StreamSpellsGivenResponse p p.given
         → (answer : Next Response) × response_stream.Answers p answer }
 {}

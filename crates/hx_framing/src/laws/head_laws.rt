@@ -5,31 +5,31 @@ ghost use Rattle.hx_framing.specs.declared.frame_fault.FrameFault.TheVariants as
 ghost use Rattle.hx_framing.specs.declared.heads.request_head.Head.{Head};
 ghost use Rattle.hx_framing.specs.declared.heads.status_head.StatusHead.{StatusHead};
 ghost use Rattle.hx_framing.specs.Head as requests;
-ghost use Rattle.hx_framing.specs.Head.{request_head_fault};
+ghost use Rattle.hx_framing.specs.Head.{fault_of_bad_request_head};
 ghost use Rattle.hx_framing.specs.StatusHead as responses;
 ghost use Rattle.hx_framing.specs.StatusHead.{status_head_fault};
 ghost use Rattle.hx_framing.specs.Version.{is_unsupported_version};
-ghost use Rattle.hx_framing.specs.HeadLines.{is_field_line, HeadHasFieldLines, is_wellformed_field};
+ghost use Rattle.hx_framing.specs.HeadLines.{is_field_line, HeadHasFieldLinesOfNames, is_wellformed_field};
 
 /// Version takes the place of Head where the request line ends with another version.
 pub fn worked_versions_of_requests()
-    ensures letter_in_front { request_head_fault (codes "xHTTP/9.9\r\n\r\n") ≡ fault.Version }
-    ensures preface { request_head_fault (codes "PRI * HTTP/2.0\r\n\r\n") ≡ fault.Version }
-    ensures line_feed_alone { request_head_fault (codes "PRI * HTTP/2.0\n\n") ≡ fault.Version }
-    ensures empty_lines { request_head_fault (codes "\r\n\nGET / HTTP/1.2\r\n\r\n") ≡ fault.Version }
-    ensures folded { request_head_fault (codes "GET / HTTP/0.9\r\na: b\r\n c\r\n\r\n") ≡ fault.Version }
-    ensures space_behind { request_head_fault (codes "GET / HTTP/2.0 \r\n\r\n") ≡ fault.Head }
-    ensures space_behind_alone { request_head_fault (codes "GET / HTTP/2.0 \n\n") ≡ fault.Head }
-    ensures two_returns { request_head_fault (codes "GET / HTTP/2.0\r\r\n\r\n") ≡ fault.Head }
-    ensures two_digits { request_head_fault (codes "GET / HTTP/1.10\r\n\r\n") ≡ fault.Head }
-    ensures two_digits_alone { request_head_fault (codes "GET / HTTP/1.10\n\n") ≡ fault.Head }
-    ensures two_digits_in_front { request_head_fault (codes "GET / HTTP/11.1\r\n\r\n") ≡ fault.Head }
-    ensures one_digit { request_head_fault (codes "GET / HTTP/2\r\n\r\n") ≡ fault.Head }
-    ensures lower_case { request_head_fault (codes "GET / http/2.0\r\n\r\n") ≡ fault.Head }
-    ensures known { request_head_fault (codes "GET  / HTTP/1.1\r\n\r\n") ≡ fault.Head }
-    ensures known_old { request_head_fault (codes "GET  / HTTP/1.0\n\n") ≡ fault.Head }
-    ensures second_line { request_head_fault (codes "GET\r\nHTTP/2.0\r\n\r\n") ≡ fault.Head }
-    ensures empty { request_head_fault (codes "\r\n") ≡ fault.Head }
+    ensures letter_in_front { fault_of_bad_request_head (codes "xHTTP/9.9\r\n\r\n") ≡ fault.Version }
+    ensures preface { fault_of_bad_request_head (codes "PRI * HTTP/2.0\r\n\r\n") ≡ fault.Version }
+    ensures line_feed_alone { fault_of_bad_request_head (codes "PRI * HTTP/2.0\n\n") ≡ fault.Version }
+    ensures empty_lines { fault_of_bad_request_head (codes "\r\n\nGET / HTTP/1.2\r\n\r\n") ≡ fault.Version }
+    ensures folded { fault_of_bad_request_head (codes "GET / HTTP/0.9\r\na: b\r\n c\r\n\r\n") ≡ fault.Version }
+    ensures space_behind { fault_of_bad_request_head (codes "GET / HTTP/2.0 \r\n\r\n") ≡ fault.Head }
+    ensures space_behind_alone { fault_of_bad_request_head (codes "GET / HTTP/2.0 \n\n") ≡ fault.Head }
+    ensures two_returns { fault_of_bad_request_head (codes "GET / HTTP/2.0\r\r\n\r\n") ≡ fault.Head }
+    ensures two_digits { fault_of_bad_request_head (codes "GET / HTTP/1.10\r\n\r\n") ≡ fault.Head }
+    ensures two_digits_alone { fault_of_bad_request_head (codes "GET / HTTP/1.10\n\n") ≡ fault.Head }
+    ensures two_digits_in_front { fault_of_bad_request_head (codes "GET / HTTP/11.1\r\n\r\n") ≡ fault.Head }
+    ensures one_digit { fault_of_bad_request_head (codes "GET / HTTP/2\r\n\r\n") ≡ fault.Head }
+    ensures lower_case { fault_of_bad_request_head (codes "GET / http/2.0\r\n\r\n") ≡ fault.Head }
+    ensures known { fault_of_bad_request_head (codes "GET  / HTTP/1.1\r\n\r\n") ≡ fault.Head }
+    ensures known_old { fault_of_bad_request_head (codes "GET  / HTTP/1.0\n\n") ≡ fault.Head }
+    ensures second_line { fault_of_bad_request_head (codes "GET\r\nHTTP/2.0\r\n\r\n") ≡ fault.Head }
+    ensures empty { fault_of_bad_request_head (codes "\r\n") ≡ fault.Head }
 {}
 
 /// HTTP-version = "HTTP/" DIGIT "." DIGIT (RFC 9112, section 2.3): what is another version than 1.0
@@ -64,7 +64,7 @@ pub fn worked_versions_of_responses()
 /// its first colon and no line end inside, and an empty line.
 pub fn request_heads_have_wellformed_lines()
     ensures lines { (bytes : List ℕ) → (head : Head) → requests.RequestHeadIsJudged bytes (Ok head)
-        → HeadHasFieldLines bytes head.fields }
+        → HeadHasFieldLinesOfNames bytes head.fields }
     ensures sound { (bytes : List ℕ) → (head : Head) → requests.RequestHeadIsJudged bytes (Ok head)
         → list_all is_wellformed_field head.fields ≡ true }
 {}
@@ -72,13 +72,13 @@ pub fn request_heads_have_wellformed_lines()
 /// The same of a response.
 pub fn response_heads_have_wellformed_lines()
     ensures lines { (bytes : List ℕ) → (head : StatusHead) → responses.ResponseHeadIsJudged bytes (Ok head)
-        → HeadHasFieldLines bytes head.fields }
+        → HeadHasFieldLinesOfNames bytes head.fields }
     ensures sound { (bytes : List ℕ) → (head : StatusHead) → responses.ResponseHeadIsJudged bytes (Ok head)
         → list_all is_wellformed_field head.fields ≡ true }
 {}
 
 /// A folded line, one with a space before its colon and one without a name are no field lines.
-pub fn malformed_lines_are_no_field_lines()
+pub fn worked_malformed_field_lines()
     ensures plain { is_field_line (codes "a: b\r") ≡ true }
     ensures line_feed_alone { is_field_line (codes "a:b") ≡ true }
     ensures empty_value { is_field_line (codes "a:\r") ≡ true }

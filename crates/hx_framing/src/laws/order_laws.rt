@@ -7,7 +7,8 @@ ghost use Rattle.hx_framing.specs.declared.lengths.framing.RequestFraming.{Reque
 ghost use Rattle.hx_framing.specs.declared.heads.request_head.Head.{Head};
 ghost use Rattle.hx_framing.specs.declared.heads.status_head.StatusHead.{StatusHead};
 ghost use Rattle.hx_framing.specs.Fault.{frame_fault_number};
-ghost use Rattle.hx_framing.specs.FaultOrder.{fault_applies_to_request, fault_applies_to_response, IsLeastFault};
+ghost use Rattle.hx_framing.specs.FaultOrder.{fault_applies_to_request_head, fault_applies_to_response_head};
+ghost use Rattle.hx_framing.specs.FaultOrder.{IsLeastFault};
 ghost use Rattle.hx_framing.specs.Lengths.{request_framing_of, framing_of_response};
 
 /// The numbers of the faults.
@@ -28,18 +29,18 @@ pub fn worked_frame_fault_numbers()
 /// none where none stands.
 pub fn the_least_fault_of_a_request_is_named()
     ensures fault { (max_body : ℕ) → (head : Head) → (fault : FrameFault) → request_framing_of max_body head ≡ Err fault
-        → IsLeastFault (fault_applies_to_request max_body head) fault }
+        → IsLeastFault (fault_applies_to_request_head max_body head) fault }
     ensures none { (max_body : ℕ) → (head : Head) → (body : RequestFraming) → request_framing_of max_body head ≡ Ok body
         → (fault : FrameFault)
-        → fault_applies_to_request max_body head fault ≡ false }
+        → fault_applies_to_request_head max_body head fault ≡ false }
 {}
 
 /// The same of a response: its length fields don't count where it has no content, and its status is judged last.
 pub fn the_least_fault_of_a_response_is_named()
     ensures fault { (max_body : ℕ) → (to_head : Bool) → (head : StatusHead) → (fault : FrameFault)
         → framing_of_response max_body to_head head ≡ Err fault
-        → IsLeastFault (fault_applies_to_response max_body to_head head) fault }
+        → IsLeastFault (fault_applies_to_response_head max_body to_head head) fault }
     ensures none { (max_body : ℕ) → (to_head : Bool) → (head : StatusHead) → (framing : Framing)
         → framing_of_response max_body to_head head ≡ Ok framing → (fault : FrameFault)
-        → fault_applies_to_response max_body to_head head fault ≡ false }
+        → fault_applies_to_response_head max_body to_head head fault ≡ false }
 {}

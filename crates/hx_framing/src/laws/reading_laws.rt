@@ -10,16 +10,16 @@ ghost use Rattle.hx_framing.specs.RequestReading as request;
 ghost use Rattle.hx_framing.specs.ResponseReading as response;
 ghost use Rattle.hx_framing.specs.Reading.{Incomplete, Continue, Over, Spelled, Faulty};
 ghost use Rattle.hx_framing.specs.ReadingExamples.{request_stream_reads, ended_request_stream_reads};
-ghost use Rattle.hx_framing.specs.ReadingExamples.{continued_request_stream_reads, response_stream_reads};
+ghost use Rattle.hx_framing.specs.ReadingExamples.{request_stream_reads_after_continue, response_stream_reads};
 ghost use Rattle.hx_framing.specs.ReadingExamples.{ended_response_stream_reads};
 ghost use Rattle.hx_framing.specs.ReadingExamples.{head_response_stream_reads};
 ghost use Rattle.hx_framing.specs.ReadingExamples.{hello_request, hello_request_read, hello_response};
 ghost use Rattle.hx_framing.specs.ReadingExamples.{hello_response_read};
 ghost use Rattle.hx_framing.specs.ReadingExamples.{put_request_with};
-ghost use Rattle.hx_framing.specs.ReadingExamples.{put_request_read, ok_response_with, response_with};
+ghost use Rattle.hx_framing.specs.ReadingExamples.{put_request_read, ok_response_text_with_lines, response_with};
 
 /// The request of RFC 9110, section 3.9, is read whole, and what follows it is left; without its last byte it waits.
-pub fn a_request_head_is_read()
+pub fn worked_request_head_is_read()
     ensures whole { request_stream_reads hello_request (Spelled hello_request_read []) }
     ensures behind { request_stream_reads (hello_request ++ codes "GET / HT") (Spelled hello_request_read (codes "GET / HT")) }
     ensures last { ended_request_stream_reads hello_request (Spelled hello_request_read []) }
@@ -29,7 +29,7 @@ pub fn a_request_head_is_read()
 
 /// Empty lines in front are dropped, lines may end by LF alone, and white space round a value is not of it (RFC 9112,
 /// sections 2.2 and 5).
-pub fn heads_in_other_forms_are_read()
+pub fn worked_heads_in_other_forms_are_read()
     ensures line_feeds { request_stream_reads (codes "\r\n\nGET / HTTP/1.0\nA:\t b \t\n\nx") (Spelled (record {
       method = codes "GET";
       target = codes "/";
@@ -50,11 +50,12 @@ pub fn heads_in_other_forms_are_read()
 {}
 
 /// The response of RFC 9110, section 3.9, with its 51 bytes of content; one byte less, and it waits.
-pub fn a_response_is_read()
+pub fn worked_response_is_read()
     ensures whole { response_stream_reads hello_response (Spelled hello_response_read []) }
     ensures behind { response_stream_reads (hello_response ++ codes "x") (Spelled hello_response_read (codes "x")) }
-    ensures short { response_stream_reads (ok_response_with (codes "Content-Length: 3\r\n") ++ codes "hi") Incomplete }
-    ensures cut { ended_response_stream_reads (ok_response_with (codes "Content-Length: 3\r\n") ++ codes "hi") (Faulty fault.Truncated) }
+    ensures short { response_stream_reads (ok_response_text_with_lines (codes "Content-Length: 3\r\n") ++ codes "hi") Incomplete }
+    ensures cut { ended_response_stream_reads
+        (ok_response_text_with_lines (codes "Content-Length: 3\r\n") ++ codes "hi") (Faulty fault.Truncated) }
 {}
 
 /// Content-Length tells how many bytes a request has; two lines have to agree, and without one there is no content (RFC
@@ -81,11 +82,12 @@ pub fn content_length_delimits_the_content()
 
 /// Transfer-Encoding and Content-Length in one message are refused, whatever they say (RFC 9112, section 6.3, lets them
 /// be).
-pub fn both_lengths_are_refused()
+pub fn worked_both_lengths_are_refused()
     ensures request { request_stream_reads (put_request_with (codes "Transfer-Encoding: chunked\r\nContent-Length: 5\r\n") ++ codes "0\r\n\r\n") (Faulty fault.BothLengths) }
     ensures turned { request_stream_reads (put_request_with (codes "Content-Length: 5\r\nTransfer-Encoding: chunked\r\n") ++ codes "0\r\n\r\n") (Faulty fault.BothLengths) }
     ensures old { request_stream_reads (codes "PUT /a HTTP/1.0\r\nTransfer-Encoding: chunked\r\nContent-Length: x\r\n\r\n") (Faulty fault.BothLengths) }
-    ensures response { response_stream_reads (ok_response_with (codes "Transfer-Encoding: chunked\r\nContent-Length: 5\r\n") ++ codes "0\r\n\r\n") (Faulty fault.BothLengths) }
+    ensures response { response_stream_reads
+        (ok_response_text_with_lines (codes "Transfer-Encoding: chunked\r\nContent-Length: 5\r\n") ++ codes "0\r\n\r\n") (Faulty fault.BothLengths) }
 {}
 
 /// chunked is the one coding that is read; a request whose last coding is another has no end (RFC 9112, section 6.3).
@@ -96,19 +98,19 @@ pub fn only_chunked_is_read()
     ensures endless { request_stream_reads (put_request_with (codes "Transfer-Encoding: gzip\r\n")) (Faulty fault.Length) }
     ensures twice { request_stream_reads (put_request_with (codes "Transfer-Encoding: chunked\r\nTransfer-Encoding: chunked\r\n")) (Faulty fault.Length) }
     ensures old { request_stream_reads (codes "PUT /a HTTP/1.0\r\nTransfer-Encoding: chunked\r\n\r\n") (Faulty fault.Length) }
-    ensures response { response_stream_reads (ok_response_with (codes "Transfer-Encoding: gzip\r\n")) (Faulty fault.Coding) }
+    ensures response { response_stream_reads (ok_response_text_with_lines (codes "Transfer-Encoding: gzip\r\n")) (Faulty fault.Coding) }
     ensures old_response { response_stream_reads (codes "HTTP/1.0 200 OK\r\nTransfer-Encoding: chunked\r\n\r\n") (Faulty fault.Length) }
 {}
 
 /// Chunks with an extension and a trailer give their data, and what follows is left (RFC 9112, section 7.1).
-pub fn chunked_contents_are_read()
+pub fn worked_chunked_contents_are_read()
     ensures request { request_stream_reads (put_request_with (codes "Transfer-Encoding: chunked\r\n")
         ++ codes "4\r\nWiki\r\n5;x=1\r\npedia\r\n0\r\nExpires: 0\r\n\r\nGET") (Spelled (put_request_read [] (Some (codes "Wikipedia"))) (codes "GET")) }
-    ensures response { response_stream_reads (ok_response_with (codes "Transfer-Encoding: chunked\r\n")
+    ensures response { response_stream_reads (ok_response_text_with_lines (codes "Transfer-Encoding: chunked\r\n")
         ++ codes "4\r\nWiki\r\n5;x=1\r\npedia\r\n0\r\nExpires: 0\r\n\r\n") (Spelled (response_with 200 [] (codes "Wikipedia") None) []) }
     ensures open { request_stream_reads (put_request_with (codes "Transfer-Encoding: chunked\r\n") ++ codes "4\r\nWiki\r\n0\r\n\r") Incomplete }
     ensures cut { ended_request_stream_reads (put_request_with (codes "Transfer-Encoding: chunked\r\n") ++ codes "4\r\nWiki\r\n0\r\n\r") (Faulty fault.Truncated) }
-    ensures cut_response { ended_response_stream_reads (ok_response_with (codes "Transfer-Encoding: chunked\r\n")
+    ensures cut_response { ended_response_stream_reads (ok_response_text_with_lines (codes "Transfer-Encoding: chunked\r\n")
         ++ codes "4\r\nWiki\r\n") (Faulty fault.Truncated) }
     ensures bad_end { request_stream_reads (put_request_with (codes "Transfer-Encoding: chunked\r\n") ++ codes "4\r\nWikipedia") (Faulty fault.Chunk) }
     ensures large { request_stream_reads (put_request_with (codes "Transfer-Encoding: chunked\r\n") ++ codes "3e9\r\n") (Faulty fault.TooLarge) }
@@ -119,7 +121,7 @@ pub fn chunked_contents_are_read()
 
 /// Interim responses are passed over, as that of RFC 8297, section 2; 101 is refused.
 pub fn interim_responses_are_skipped()
-    ensures early_hints { response_stream_reads (codes "HTTP/1.1 103 Early Hints\r\nLink: </style.css>; rel=preload; as=style\r\nLink: </script.js>; rel=preload; as=script\r\n\r\n" ++ ok_response_with (codes "Content-Length: 2\r\n") ++ codes "hi")
+    ensures early_hints { response_stream_reads (codes "HTTP/1.1 103 Early Hints\r\nLink: </style.css>; rel=preload; as=style\r\nLink: </script.js>; rel=preload; as=script\r\n\r\n" ++ ok_response_text_with_lines (codes "Content-Length: 2\r\n") ++ codes "hi")
         (Spelled (response_with 200 [] (codes "hi") None) []) }
     ensures two { response_stream_reads (codes "HTTP/1.1 100 Continue\r\n\r\nHTTP/1.1 199 \r\nContent-Length: x\r\n\r\nHTTP/1.1 204 \r\n\r\n") (Spelled (response_with 204 [] [] None) []) }
     ensures alone { response_stream_reads (codes "HTTP/1.1 100 Continue\r\n\r\n") Incomplete }
@@ -129,15 +131,15 @@ pub fn interim_responses_are_skipped()
 
 /// A response to HEAD and one with 204 or 304 ends with its head, whatever its length fields say (RFC 9112, section
 /// 6.3).
-pub fn responses_without_content_are_read()
+pub fn worked_responses_without_content_are_read()
     ensures no_content { response_stream_reads (codes "HTTP/1.1 204 No Content\r\nContent-Length: 5\r\n\r\n"
         ++ codes "hello") (Spelled (response_with 204 [] [] None) (codes "hello")) }
     ensures not_modified { response_stream_reads (codes "HTTP/1.1 304 Not Modified\r\nETag: \"v\"\r\nContent-Length: x\r\n\r\n"
         ++ codes "hello")
         (Spelled (response_with 304 (line (codes "ETag") (codes "\"v\"") ∷ []) [] None) (codes "hello")) }
-    ensures to_head { head_response_stream_reads (ok_response_with (codes "Content-Length: 5\r\n") ++ codes "hello")
+    ensures to_head { head_response_stream_reads (ok_response_text_with_lines (codes "Content-Length: 5\r\n") ++ codes "hello")
         (Spelled (response_with 200 [] [] (Some 5)) (codes "hello")) }
-    ensures to_head_coded { head_response_stream_reads (ok_response_with (codes "Transfer-Encoding: chunked\r\n") ++ codes "hello")
+    ensures to_head_coded { head_response_stream_reads (ok_response_text_with_lines (codes "Transfer-Encoding: chunked\r\n") ++ codes "hello")
         (Spelled (response_with 200 [] [] None) (codes "hello")) }
     ensures reset { response_stream_reads (codes "HTTP/1.1 205 \r\nContent-Length: 2\r\n\r\n" ++ codes "hi!")
         (Spelled (response_with 205 [] (codes "hi") None) (codes "!")) }
@@ -146,17 +148,19 @@ pub fn responses_without_content_are_read()
 {}
 
 /// A response without length fields runs until its stream ends (RFC 9112, section 6.3).
-pub fn contents_run_until_the_close()
-    ensures open { response_stream_reads (ok_response_with [] ++ codes "hi") Incomplete }
-    ensures closed { ended_response_stream_reads (ok_response_with [] ++ codes "hi")
+pub fn worked_contents_run_until_the_close()
+    ensures open { response_stream_reads (ok_response_text_with_lines [] ++ codes "hi") Incomplete }
+    ensures closed { ended_response_stream_reads (ok_response_text_with_lines [] ++ codes "hi")
         (Spelled (response_with 200 [] (codes "hi") None) []) }
-    ensures empty { ended_response_stream_reads (ok_response_with []) (Spelled (response_with 200 [] [] None) []) }
-    ensures large { response_stream_reads (ok_response_with [] ++ replicate 1001 120) (Faulty fault.TooLarge) }
-    ensures most { response_stream_reads (ok_response_with [] ++ replicate 1000 120) Incomplete }
+    ensures empty { ended_response_stream_reads (ok_response_text_with_lines [])
+        (Spelled (response_with 200 [] [] None) []) }
+    ensures large { response_stream_reads (ok_response_text_with_lines [] ++ replicate 1001 120)
+        (Faulty fault.TooLarge) }
+    ensures most { response_stream_reads (ok_response_text_with_lines [] ++ replicate 1000 120) Incomplete }
 {}
 
 /// A final status is from 200 to 599; its fault is told last.
-pub fn final_statuses_are_200_to_599()
+pub fn worked_final_statuses()
     ensures high { response_stream_reads (codes "HTTP/1.1 600 \r\nContent-Length: 0\r\n\r\n") (Faulty fault.Status) }
     ensures low { response_stream_reads (codes "HTTP/1.1 099 \r\nContent-Length: 0\r\n\r\n") (Faulty fault.Status) }
     ensures last { response_stream_reads (codes "HTTP/1.1 599 \r\nContent-Length: 0\r\n\r\n") (Spelled (response_with 599 [] [] None) []) }
@@ -165,13 +169,13 @@ pub fn final_statuses_are_200_to_599()
 {}
 
 /// A client that expects a continue gets it before its content (RFC 9110, section 10.1.1); no other expectation is met.
-pub fn only_100_continue_is_met()
+pub fn worked_only_100_continue_is_met()
     ensures waits { request_stream_reads (put_request_with (codes "Expect: 100-continue\r\nContent-Length: 2\r\n")) Continue }
     ensures one_byte { request_stream_reads (put_request_with (codes "Expect: 100-continue\r\nContent-Length: 1\r\n")) Continue }
     ensures content_there { request_stream_reads (put_request_with (codes "Expect: 100-Continue\r\nContent-Length: 2\r\n") ++ codes "hi") Continue }
-    ensures given { continued_request_stream_reads (put_request_with (codes "Expect: 100-continue\r\nContent-Length: 2\r\n") ++ codes "hi!")
+    ensures given { request_stream_reads_after_continue (put_request_with (codes "Expect: 100-continue\r\nContent-Length: 2\r\n") ++ codes "hi!")
         (Spelled (put_request_read (line (codes "Expect") (codes "100-continue") ∷ []) (Some (codes "hi"))) (codes "!")) }
-    ensures given_open { continued_request_stream_reads (put_request_with (codes "Expect: 100-continue\r\nContent-Length: 2\r\n") ++ codes "h") Incomplete }
+    ensures given_open { request_stream_reads_after_continue (put_request_with (codes "Expect: 100-continue\r\nContent-Length: 2\r\n") ++ codes "h") Incomplete }
     ensures no_content { request_stream_reads (put_request_with (codes "Expect: 100-continue\r\n"))
         (Spelled (put_request_read (line (codes "Expect") (codes "100-continue") ∷ []) None) []) }
     ensures other { request_stream_reads (put_request_with (codes "Expect: x\r\nContent-Length: 2\r\n")) (Faulty fault.Expect) }
@@ -185,7 +189,7 @@ pub fn only_100_continue_is_met()
 {}
 
 /// A request stream may end before a message, behind empty lines alone too; a response stream may not.
-pub fn only_request_streams_end_without_message()
+pub fn worked_ends_of_streams_without_message()
     ensures nothing { request_stream_reads [] Incomplete }
     ensures nothing_more { ended_request_stream_reads [] Over }
     ensures empty_lines { ended_request_stream_reads (codes "\r\n\n\r\n") Over }

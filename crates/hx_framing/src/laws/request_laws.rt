@@ -12,21 +12,22 @@ ghost use Rattle.hx_framing.specs.ChunkDecoder.{ChunkDecoder};
 ghost use Rattle.hx_framing.specs.Chunks.{decoder_after_bytes};
 ghost use Rattle.hx_framing.specs.HeadEnd.{head_length};
 ghost use Rattle.hx_framing.specs.PlainContent.{PlainContent};
-ghost use Rattle.hx_framing.specs.Reading.{StreamReading, Faulty, ReadingIsSettled, reading_with_more_bytes};
+ghost use Rattle.hx_framing.specs.Reading.{StreamReadResult, Faulty, ReadingIsSettled, reading_with_more_bytes};
 ghost use Rattle.hx_framing.specs.RequestReading.{ReadsAs};
 ghost use Rattle.hx_framing.specs.RequestStream.{StreamSpells, Answers, OutOfMemoryIsAllowed};
-ghost use Rattle.hx_framing.specs.Progress.{Progress, AnswerIsDue, progress_after_piece, progress_after_end};
-ghost use Rattle.hx_framing.specs.RequestState.{State, RepresentsStream, weight, request_kind};
+ghost use Rattle.hx_framing.specs.Progress.{Progress, ReaderAnswerNeedsAction, progress_after_piece};
+ghost use Rattle.hx_framing.specs.Progress.{progress_after_end};
+ghost use Rattle.hx_framing.specs.RequestState.{State, ReaderRepresentsStream, weight, request_kind};
 
 /// One thing stands at the front of the unread bytes.
 pub fn reading_of_bytes_is_unique()
-    ensures { (max_body : ℕ) → (ended continue_sent : Bool) → (bytes : List ℕ) → (a b : StreamReading Request)
+    ensures { (max_body : ℕ) → (ended continue_sent : Bool) → (bytes : List ℕ) → (a b : StreamReadResult Request)
         → ReadsAs max_body ended continue_sent bytes a → ReadsAs max_body ended continue_sent bytes b → a ≡ b }
 {}
 
 /// What is due stays due, whatever comes behind it: so it doesn't matter how the stream is cut.
 pub fn more_bytes_change_no_settled_reading()
-    ensures { (max_body : ℕ) → (continue_sent : Bool) → (bytes more : List ℕ) → (reading : StreamReading Request)
+    ensures { (max_body : ℕ) → (continue_sent : Bool) → (bytes more : List ℕ) → (reading : StreamReadResult Request)
         → ReadingIsSettled reading → ReadsAs max_body false continue_sent bytes reading
         → ReadsAs max_body false continue_sent (bytes ++ more) (reading_with_more_bytes reading more) }
 {}
@@ -55,7 +56,7 @@ pub fn messages_spelled_by_a_stream_are_unique()
 
 /// The requests given are those that the stream spells.
 pub fn readers_give_only_spelled_messages()
-    ensures { (reader : State) → (p : Progress Request) → RepresentsStream reader p → (rest : List ℕ)
+    ensures { (reader : State) → (p : Progress Request) → ReaderRepresentsStream reader p → (rest : List ℕ)
         × StreamSpells p.max_body p.stream p.given rest }
 {}
 
@@ -67,8 +68,9 @@ pub fn answer_of_a_stream_is_unique()
 /// An answer that is due stays the right one, whatever comes and where the stream ends.
 pub fn more_bytes_change_no_due_answer()
     ensures piece { (p : Progress Request) → (answer : Next Request) → (piece : List ℕ)
-        → p.ended ≡ false → AnswerIsDue answer → Answers p answer → Answers (progress_after_piece p piece) answer }
-    ensures end { (p : Progress Request) → (answer : Next Request) → AnswerIsDue answer → Answers p answer
+        → p.ended ≡ false → ReaderAnswerNeedsAction answer → Answers p answer
+        → Answers (progress_after_piece p piece) answer }
+    ensures end { (p : Progress Request) → (answer : Next Request) → ReaderAnswerNeedsAction answer → Answers p answer
         → Answers (progress_after_end p) answer }
 {}
 
@@ -83,10 +85,10 @@ pub fn readers_weigh_two_for_each_unread_byte()
 
 /// What the contracts of a reader say by its kind, they say of requests.
 pub fn generic_reader_contracts_hold_of_requests()
-    ensures represents { (s : State) → (p : Progress Request) → request_kind.RepresentsStream s p
-        → RepresentsStream s p }
-    ensures represented { (s : State) → (p : Progress Request) → RepresentsStream s p
-        → request_kind.RepresentsStream s p }
+    ensures represents { (s : State) → (p : Progress Request) → request_kind.ReaderRepresentsStream s p
+        → ReaderRepresentsStream s p }
+    ensures represented { (s : State) → (p : Progress Request) → ReaderRepresentsStream s p
+        → request_kind.ReaderRepresentsStream s p }
     ensures answers { (p : Progress Request) → (a : Next Request) → request_kind.Answers p a → Answers p a }
     ensures memory { (p : Progress Request) → request_kind.OutOfMemoryIsAllowed p → OutOfMemoryIsAllowed p }
     ensures weight { (s : State) → request_kind.weight s ≡ weight s }

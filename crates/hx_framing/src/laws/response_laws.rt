@@ -14,13 +14,15 @@ ghost use Rattle.hx_framing.specs.Chunks.{decoder_after_bytes};
 ghost use Rattle.hx_framing.specs.Lengths.{without_length_fields};
 ghost use Rattle.hx_framing.specs.HeadEnd.{head_length};
 ghost use Rattle.hx_framing.specs.PlainContent.{PlainContent};
-ghost use Rattle.hx_framing.specs.Reading.{StreamReading, Faulty, ReadingIsSettled, Spelled, reading_with_more_bytes};
+ghost use Rattle.hx_framing.specs.Reading.{StreamReadResult, Faulty, ReadingIsSettled, Spelled};
+ghost use Rattle.hx_framing.specs.Reading.{reading_with_more_bytes};
 ghost use Rattle.hx_framing.specs.ResponseReading.{ReadsAs};
 ghost use Rattle.hx_framing.specs.ResponseStream.{SpellsResponse, StreamSpellsGivenResponse, Answers};
 ghost use Rattle.hx_framing.specs.ResponseStream.{OutOfMemoryIsAllowed};
-ghost use Rattle.hx_framing.specs.Progress.{Progress, AnswerIsDue, cost_of_answer, progress_after_piece};
+ghost use Rattle.hx_framing.specs.Progress.{Progress, ReaderAnswerNeedsAction, weight_used_by_answer};
+ghost use Rattle.hx_framing.specs.Progress.{progress_after_piece};
 ghost use Rattle.hx_framing.specs.Progress.{progress_after_end};
-ghost use Rattle.hx_framing.specs.ResponseState.{State, RepresentsStream, weight, response_kind};
+ghost use Rattle.hx_framing.specs.ResponseState.{State, ReaderRepresentsStream, weight, response_reader_kind};
 
 /// A stream has one response: behind it nothing is given but the end.
 pub fn at_most_one_response_is_given()
@@ -29,14 +31,14 @@ pub fn at_most_one_response_is_given()
 
 /// One thing stands at the front of the stream.
 pub fn reading_of_bytes_is_unique()
-    ensures { (max_body : ℕ) → (to_head ended : Bool) → (bytes : List ℕ) → (a b : StreamReading Response)
+    ensures { (max_body : ℕ) → (to_head ended : Bool) → (bytes : List ℕ) → (a b : StreamReadResult Response)
         → ReadsAs max_body to_head ended bytes a → ReadsAs max_body to_head ended bytes b → a ≡ b }
 {}
 
 /// What is due stays due, whatever comes behind it: so it doesn't matter how the stream is cut.
 pub fn more_bytes_change_no_settled_reading()
     ensures { (max_body : ℕ) → (to_head : Bool) → (bytes more : List ℕ)
-        → (reading : StreamReading Response) → ReadingIsSettled reading
+        → (reading : StreamReadResult Response) → ReadingIsSettled reading
         → ReadsAs max_body to_head false bytes reading
         → ReadsAs max_body to_head false (bytes ++ more) (reading_with_more_bytes reading more) }
 {}
@@ -57,7 +59,7 @@ pub fn messages_spelled_by_a_stream_are_unique()
 
 /// No response was given, or the one that the stream spells.
 pub fn readers_give_only_spelled_messages()
-    ensures { (reader : State) → (p : Progress Response) → RepresentsStream reader p
+    ensures { (reader : State) → (p : Progress Response) → ReaderRepresentsStream reader p
         → StreamSpellsGivenResponse p p.given }
 {}
 
@@ -69,8 +71,9 @@ pub fn answer_of_a_stream_is_unique()
 /// An answer that is due stays the right one, whatever comes and where the stream ends.
 pub fn more_bytes_change_no_due_answer()
     ensures piece { (p : Progress Response) → (answer : Next Response) → (piece : List ℕ)
-        → p.ended ≡ false → AnswerIsDue answer → Answers p answer → Answers (progress_after_piece p piece) answer }
-    ensures end { (p : Progress Response) → (answer : Next Response) → AnswerIsDue answer
+        → p.ended ≡ false → ReaderAnswerNeedsAction answer → Answers p answer
+        → Answers (progress_after_piece p piece) answer }
+    ensures end { (p : Progress Response) → (answer : Next Response) → ReaderAnswerNeedsAction answer
         → Answers p answer → Answers (progress_after_end p) answer }
 {}
 
@@ -106,13 +109,14 @@ pub fn readers_weigh_two_for_each_unread_byte()
 
 /// What the contracts of a reader say by its kind, they say of responses.
 pub fn generic_reader_contracts_hold_of_responses()
-    ensures represents { (s : State) → (p : Progress Response) → response_kind.RepresentsStream s p
-        → RepresentsStream s p }
-    ensures represented { (s : State) → (p : Progress Response) → RepresentsStream s p
-        → response_kind.RepresentsStream s p }
-    ensures answers { (p : Progress Response) → (a : Next Response) → response_kind.Answers p a → Answers p a }
-    ensures memory { (p : Progress Response) → response_kind.OutOfMemoryIsAllowed p → OutOfMemoryIsAllowed p }
-    ensures weight { (s : State) → response_kind.weight s ≡ weight s }
-    ensures due { (left : ℕ) → (a : Next Response) → response_kind.DueIsWeighed left a → AnswerIsDue a
-        → 1 ≤ left + cost_of_answer a }
+    ensures represents { (s : State) → (p : Progress Response) → response_reader_kind.ReaderRepresentsStream s p
+        → ReaderRepresentsStream s p }
+    ensures represented { (s : State) → (p : Progress Response) → ReaderRepresentsStream s p
+        → response_reader_kind.ReaderRepresentsStream s p }
+    ensures answers { (p : Progress Response) → (a : Next Response) → response_reader_kind.Answers p a → Answers p a }
+    ensures memory { (p : Progress Response) → response_reader_kind.OutOfMemoryIsAllowed p → OutOfMemoryIsAllowed p }
+    ensures weight { (s : State) → response_reader_kind.weight s ≡ weight s }
+    ensures due { (left : ℕ) → (a : Next Response) → response_reader_kind.DueIsWeighed left a
+        → ReaderAnswerNeedsAction a
+        → 1 ≤ left + weight_used_by_answer a }
 {}

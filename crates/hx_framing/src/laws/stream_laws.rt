@@ -4,7 +4,8 @@ ghost use Rattle.hx_framing.specs.declared.messages.Next.TheVariants as next;
 ghost use Rattle.hx_framing.specs.declared.frame_fault.FrameFault.TheVariants as fault;
 ghost use Rattle.hx_framing.specs.declared.messages.Request.{Request};
 ghost use Rattle.hx_framing.specs.declared.messages.Response.{Response};
-ghost use Rattle.hx_framing.specs.Progress.{Progress, AnswerIsDue, cost_of_answer, progress_after_piece};
+ghost use Rattle.hx_framing.specs.Progress.{Progress, ReaderAnswerNeedsAction, weight_used_by_answer};
+ghost use Rattle.hx_framing.specs.Progress.{progress_after_piece};
 ghost use Rattle.hx_framing.specs.Progress.{progress_after_end};
 ghost use Rattle.hx_framing.specs.Progress.{progress_after_answer, out_of_memory_may_replace, next_answer_of_reading};
 ghost use Rattle.hx_framing.specs.Progress.{empty_stream_progress};
@@ -13,12 +14,12 @@ ghost use Rattle.hx_framing.specs.Reading.{reading_with_more_bytes};
 ghost use Rattle.hx_framing.specs.ReadingExamples.{progress_after_requests_in_a_row, hello_response_read};
 ghost use Rattle.hx_framing.specs.ReadingExamples.{progress_after_hello_response};
 ghost use Rattle.hx_framing.specs.ReadingExamples.{put_request_of_hi, two_requests_and_a_beginning, put_request_read};
-ghost use Rattle.hx_framing.specs.ReadingExamples.{request_progress};
+ghost use Rattle.hx_framing.specs.ReadingExamples.{example_request_progress};
 ghost use Rattle.hx_framing.specs.RequestStream as request;
 ghost use Rattle.hx_framing.specs.ResponseStream as response;
 
 /// Requests in a row are given one by one, and what follows waits (RFC 9112, section 9.3.2).
-pub fn requests_in_a_row_are_given()
+pub fn worked_requests_in_a_row_are_given()
     ensures spelled { request.StreamSpells 1000 two_requests_and_a_beginning
         (put_request_read [] (Some (codes "hi")) ∷ put_request_read [] (Some (codes "abc")) ∷ []) (codes "PUT") }
     ensures first { request.Answers (progress_after_requests_in_a_row false [])
@@ -34,7 +35,7 @@ pub fn requests_in_a_row_are_given()
 {}
 
 /// A response is given, and then the end, whether its stream goes on or not.
-pub fn a_response_is_given_then_the_end()
+pub fn worked_response_is_given_then_the_end()
     ensures first { response.Answers (progress_after_hello_response false []) (next.Message hello_response_read) }
     ensures end { response.Answers (progress_after_hello_response false (hello_response_read ∷ [])) next.End }
     ensures closed { response.Answers (progress_after_hello_response true (hello_response_read ∷ [])) next.End }
@@ -44,24 +45,25 @@ pub fn a_response_is_given_then_the_end()
 /// message's continue was.
 pub fn worked_stream_progress()
     ensures pieces { progress_after_piece (progress_after_piece (empty_stream_progress 1000 true) (codes "GET")) (codes " /")
-        ≡ request_progress true (codes "GET /") false [] false }
-    ensures end { progress_after_end (request_progress false (codes "GET /") false [] false)
-        ≡ request_progress false (codes "GET /") true [] false }
-    ensures continue_sent { progress_after_answer (request_progress false [] false [] false) next.NeedsContinue
-        ≡ request_progress false [] false [] true }
-    ensures message { progress_after_answer (request_progress false [] false (put_request_of_hi ∷ []) true)
+        ≡ example_request_progress true (codes "GET /") false [] false }
+    ensures end { progress_after_end (example_request_progress false (codes "GET /") false [] false)
+        ≡ example_request_progress false (codes "GET /") true [] false }
+    ensures continue_sent { progress_after_answer (example_request_progress false [] false [] false) next.NeedsContinue
+        ≡ example_request_progress false [] false [] true }
+    ensures message { progress_after_answer (example_request_progress false [] false (put_request_of_hi ∷ []) true)
         (next.Message (put_request_read [] (Some [])))
-        ≡ request_progress false [] false (put_request_of_hi ∷ put_request_read [] (Some []) ∷ []) false }
-    ensures nothing { progress_after_answer (request_progress false [] false (put_request_of_hi ∷ []) true) next.More
-        ≡ request_progress false [] false (put_request_of_hi ∷ []) true }
-    ensures still_nothing { progress_after_answer (request_progress false [] false (put_request_of_hi
+        ≡ example_request_progress false [] false (put_request_of_hi ∷ put_request_read [] (Some []) ∷ []) false }
+    ensures nothing { progress_after_answer
+        (example_request_progress false [] false (put_request_of_hi ∷ []) true) next.More
+        ≡ example_request_progress false [] false (put_request_of_hi ∷ []) true }
+    ensures still_nothing { progress_after_answer (example_request_progress false [] false (put_request_of_hi
         ∷ []) false) next.More
-        ≡ request_progress false [] false (put_request_of_hi ∷ []) false }
-    ensures refused { progress_after_answer (request_progress false [] false (put_request_of_hi ∷ []) true)
+        ≡ example_request_progress false [] false (put_request_of_hi ∷ []) false }
+    ensures refused { progress_after_answer (example_request_progress false [] false (put_request_of_hi ∷ []) true)
         (next.Refused fault.Chunk)
-        ≡ request_progress false [] false (put_request_of_hi ∷ []) true }
-    ensures over { progress_after_answer (request_progress false [] true (put_request_of_hi ∷ []) true) next.End
-        ≡ request_progress false [] true (put_request_of_hi ∷ []) true }
+        ≡ example_request_progress false [] false (put_request_of_hi ∷ []) true }
+    ensures over { progress_after_answer (example_request_progress false [] true (put_request_of_hi ∷ []) true) next.End
+        ≡ example_request_progress false [] true (put_request_of_hi ∷ []) true }
 {}
 
 /// What is answered of what stands at the front of a stream.
@@ -76,11 +78,11 @@ pub fn worked_answers_of_readings()
 /// Something is due but where more has to come. Whatever follows, it stays so, but for the end of
 /// requests that may go on.
 pub fn worked_due_readings()
-    ensures more { ¬ (AnswerIsDue {M = Request} next.More) }
-    ensures continue_sent { AnswerIsDue {M = Request} next.NeedsContinue }
-    ensures message { AnswerIsDue (next.Message put_request_of_hi) }
-    ensures refused { AnswerIsDue {M = Request} (next.Refused fault.Head) }
-    ensures over { AnswerIsDue {M = Request} next.End }
+    ensures more { ¬ (ReaderAnswerNeedsAction {M = Request} next.More) }
+    ensures continue_sent { ReaderAnswerNeedsAction {M = Request} next.NeedsContinue }
+    ensures message { ReaderAnswerNeedsAction (next.Message put_request_of_hi) }
+    ensures refused { ReaderAnswerNeedsAction {M = Request} (next.Refused fault.Head) }
+    ensures over { ReaderAnswerNeedsAction {M = Request} next.End }
     ensures open { ¬ (ReadingIsSettled {M = Request} Incomplete) }
     ensures end_may_pass { ¬ (ReadingIsSettled {M = Request} Over) }
     ensures continue_stays { ReadingIsSettled {M = Request} Continue }
@@ -100,12 +102,12 @@ pub fn worked_readings_with_more_bytes()
 {}
 
 /// A continue and a message are of what is still to come; the end and a refusal may be answered again and again.
-pub fn worked_costs_of_answers()
-    ensures more { cost_of_answer {M = Request} next.More ≡ 0 }
-    ensures continue_sent { cost_of_answer {M = Request} next.NeedsContinue ≡ 1 }
-    ensures message { cost_of_answer (next.Message put_request_of_hi) ≡ 1 }
-    ensures refused { cost_of_answer {M = Request} (next.Refused fault.Head) ≡ 0 }
-    ensures over { cost_of_answer {M = Request} next.End ≡ 0 }
+pub fn worked_weights_used_by_answers()
+    ensures more { weight_used_by_answer {M = Request} next.More ≡ 0 }
+    ensures continue_sent { weight_used_by_answer {M = Request} next.NeedsContinue ≡ 1 }
+    ensures message { weight_used_by_answer (next.Message put_request_of_hi) ≡ 1 }
+    ensures refused { weight_used_by_answer {M = Request} (next.Refused fault.Head) ≡ 0 }
+    ensures over { weight_used_by_answer {M = Request} next.End ≡ 0 }
 {}
 
 /// Out of memory may stand in place of what is behind a head, which is copied; neither of the end

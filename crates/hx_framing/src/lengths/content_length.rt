@@ -10,11 +10,11 @@ ghost use Rattle.hx_fields.specs.FieldLines.{is_named};
 ghost use Rattle.hx_framing.specs.ContentLength.{texts_between_commas, is_digits, without_leading_zeros};
 ghost use Rattle.hx_framing.specs.ContentLength.{is_text_of_same_number};
 ghost use Rattle.hx_framing.specs.ContentLength.{announced_length};
-ghost use Rattle.hx_framing.specs.ContentLength.{announced_length_up_to, content_length_name};
+ghost use Rattle.hx_framing.specs.ContentLength.{announced_length_up_to_or_fault, content_length_name};
 
 use crate::frame_fault::FrameFault;
 use crate::slices::{bytes_from_index, text_before_byte};
-use hx_fields::{Field, Fields, is_same_name, number_up_to};
+use hx_fields::{Field, Fields, digits_value_if_at_most, is_same_name};
 
 fn all_digits(text: &[u8]) -> bool
     ensures { result ≡ list_all is_ascii_digit text.now }
@@ -88,14 +88,14 @@ fn announced_digits(fields: &Fields) -> Option<&[u8]>
 /// The number of these digits, if it is at most so much.
 fn value_up_to(most: u64, digits: &[u8]) -> Result<u64, FrameFault>
     requires { list_all is_ascii_digit digits.now ≡ true }
-    ensures { result ≡ announced_length_up_to most (Some (digits_value 10 digits.now)) }
+    ensures { result ≡ announced_length_up_to_or_fault most (Some (digits_value 10 digits.now)) }
 {
-    number_up_to(most, 10, digits).ok_or(FrameFault::TooLarge)
+    digits_value_if_at_most(most, 10, digits).ok_or(FrameFault::TooLarge)
 }
 
 /// The length that the lines tell, in bytes, if it is at most so much.
-pub(crate) fn announced_length_up_to(most: u64, fields: &Fields) -> Result<u64, FrameFault>
-    ensures { result ≡ announced_length_up_to most (announced_length fields.now) }
+pub(crate) fn announced_length_up_to_or_fault(most: u64, fields: &Fields) -> Result<u64, FrameFault>
+    ensures { result ≡ announced_length_up_to_or_fault most (announced_length fields.now) }
 {
     match announced_digits(fields) {
         Some(digits) => value_up_to(most, digits),

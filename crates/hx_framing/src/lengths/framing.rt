@@ -1,11 +1,11 @@
 //! How long the content behind a head is, by its fields (RFC 9112, section 6). The definitions are
 //! in `specs/Lengths.antt`.
 ghost use Rattle.std.specs.Prelude.{◌≡◌, ◌&&◌, IfOk};
-ghost use Rattle.hx_framing.specs.Lengths.{framing_by_content_length, is_chunked, last_coding_is_chunked};
+ghost use Rattle.hx_framing.specs.Lengths.{framing_by_content_length, is_chunked, only_last_coding_is_chunked};
 ghost use Rattle.hx_framing.specs.Lengths.{is_only_chunked};
 ghost use Rattle.hx_framing.specs.Lengths.{framing_of_codings, has_both_length_fields, framing_without_codings};
-ghost use Rattle.hx_framing.specs.Lengths.{has_endless_coding};
-ghost use Rattle.hx_framing.specs.Lengths.{framing_of_lengths};
+ghost use Rattle.hx_framing.specs.Lengths.{has_coding_of_unknown_end};
+ghost use Rattle.hx_framing.specs.Lengths.{framing_by_length_fields};
 ghost use Rattle.hx_framing.specs.Lengths.{framing_by_request_fields, expectation_of_head, framing_has_content};
 ghost use Rattle.hx_framing.specs.Lengths.{request_framing_of, is_interim};
 ghost use Rattle.hx_framing.specs.Lengths.{response_has_no_content, framing_of_final_response};
@@ -16,8 +16,8 @@ ghost use Rattle.hx_framing.specs.Lengths.{announced_length_in_answer_to_head, w
 use crate::frame_fault::FrameFault;
 use crate::heads::request_head::Head;
 use crate::heads::status_head::StatusHead;
-use crate::lengths::content_length::announced_length_up_to;
-use crate::limits::MOST_ANNOUNCED_BYTES;
+use crate::lengths::content_length::announced_length_up_to_or_fault;
+use crate::limits::MOST_BYTES_ANNOUNCED_TO_HEAD;
 use hx_fields::{Bytes, Fields, is_same_name};
 use std::alloc::{AllocError, Global};
 
@@ -53,7 +53,7 @@ fn framing_by_content_length(
     if !fields.has(b"content-length") {
         return Ok(neither);
     }
-    match announced_length_up_to(max_body, fields) {
+    match announced_length_up_to_or_fault(max_body, fields) {
         Ok(length) => Ok(Framing::Announced(length)),
         Err(fault) => Err(fault),
     }
@@ -66,8 +66,8 @@ fn is_chunked(coding: &Bytes) -> bool
 }
 
 /// Whether the last coding is chunked, and no other is.
-fn last_coding_is_chunked(codings: &[Bytes]) -> bool
-    ensures { result ≡ last_coding_is_chunked codings.now }
+fn only_last_coding_is_chunked(codings: &[Bytes]) -> bool
+    ensures { result ≡ only_last_coding_is_chunked codings.now }
 {
     match codings {
         [.., last] => is_chunked(last) && codings.iter().filter(|c| is_chunked(c)).count() == 1,
@@ -88,7 +88,7 @@ fn is_only_chunked(codings: &[Bytes]) -> bool
 fn framing_of_codings(must_end: bool, codings: &[Bytes]) -> Result<Framing, FrameFault>
     ensures { result ≡ framing_of_codings must_end codings.now }
 {
-    if must_end && !last_coding_is_chunked(codings) {
+    if must_end && !only_last_coding_is_chunked(codings) {
         Err(FrameFault::Length)
     } else if is_only_chunked(codings) {
         Ok(Framing::Chunked)
@@ -125,7 +125,7 @@ fn framing_without_codings(
 
 /// What the length fields of a head say; `neither` where none stands. With `must_end` codings have to tell the end of
 /// the content.
-fn framing_of_lengths(
+fn framing_by_length_fields(
     alloc: Global,
     max_body: u64,
     minor: u8,
@@ -134,7 +134,8 @@ fn framing_of_lengths(
     fields: &Fields,
 ) -> Result<Result<Framing, FrameFault>, AllocError>
     ensures { IfOk result
-        (λ r. r ≡ framing_of_lengths max_body minor neither (must_end && has_endless_coding fields.now) fields.now) }
+        (λ r. r ≡ framing_by_length_fields max_body minor neither
+        (must_end && has_coding_of_unknown_end fields.now) fields.now) }
 {
     match framing_without_codings(max_body, minor, neither, fields) {
         Some(judged) => Ok(judged),
@@ -153,7 +154,7 @@ fn framing_by_request_fields(
 ) -> Result<Result<Framing, FrameFault>, AllocError>
     ensures { IfOk result (λ r. r ≡ framing_by_request_fields max_body head.now) }
 {
-    framing_of_lengths(
+    framing_by_length_fields(
         alloc,
         max_body,
         head.minor,
@@ -235,7 +236,7 @@ fn framing_of_final_response(
 ) -> Result<Result<Framing, FrameFault>, AllocError>
     ensures { IfOk result (λ r. r ≡ framing_of_final_response max_body head.now) }
 {
-    framing_of_lengths(
+    framing_by_length_fields(
         alloc,
         max_body,
         head.minor,
@@ -281,7 +282,7 @@ pub(crate) fn announced_length_in_answer_to_head(to_head: bool, head: &StatusHea
     if !to_head || head.fields.has(b"transfer-encoding") {
         return None;
     }
-    match announced_length_up_to(MOST_ANNOUNCED_BYTES, &head.fields) {
+    match announced_length_up_to_or_fault(MOST_BYTES_ANNOUNCED_TO_HEAD, &head.fields) {
         Ok(length) => Some(length),
         Err(_) => None,
     }

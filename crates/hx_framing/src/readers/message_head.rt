@@ -3,7 +3,7 @@ ghost use Rattle.std.specs.Prelude.{◌≡◌, IfOk, OnErr, take};
 ghost use Rattle.hx_framing.specs.HeadEnd.{head_length as head_length_of, most_head_bytes};
 ghost use Rattle.hx_framing.specs.ReaderKind.{ReaderKind};
 
-use crate::readers::progress::{HeadProgress, ReaderPhase, UnreadStreamBytes};
+use crate::readers::progress::{MessageProgress, ReaderPhase, UnreadStreamBytes};
 use hx_fields::Bytes;
 use std::alloc::{AllocError, Global};
 
@@ -21,7 +21,7 @@ pub trait MessageHead: Drop {
         rest: &UnreadStreamBytes<'_>,
         to_head: bool,
         head_length: Option<usize>,
-    ) -> Result<HeadProgress<Self, Self::Message>, AllocError>
+    ) -> Result<MessageProgress<Self, Self::Message>, AllocError>
         requires { head_length ≡ head_length_of (take most_head_bytes rest.now.bytes.now) }
         ensures found { IfOk result
             (kind.FrontIsFound rest.now.max_body to_head rest.now.ended rest.now.bytes.now) }

@@ -4,7 +4,7 @@
 ghost use Rattle.std.specs.Prelude.{◌≡◌, ◌+◌, ◌*◌, ◌≤◌, [], true, false, IsOk, IfOk, OnOk, OnErr, length};
 ghost use Rattle.hx_framing.specs.declared.messages.Request.{Request};
 ghost use Rattle.hx_framing.specs.Progress.{Progress, empty_stream_progress, progress_after_piece, progress_after_end};
-ghost use Rattle.hx_framing.specs.Progress.{progress_after_answer, cost_of_answer};
+ghost use Rattle.hx_framing.specs.Progress.{progress_after_answer, weight_used_by_answer};
 ghost use Rattle.hx_framing.specs.RequestStream.{StreamSpells};
 
 use crate::contents::content::{Content, ContentProgress};
@@ -13,7 +13,7 @@ use crate::heads::request_head::Head;
 use crate::heads::status_head::StatusHead;
 use crate::messages::Next;
 use crate::readers::message_head::MessageHead;
-use crate::readers::progress::{HeadProgress, ReaderPhase, UnreadStreamBytes};
+use crate::readers::progress::{MessageProgress, ReaderPhase, UnreadStreamBytes};
 use crate::readers::unread::Unread;
 use std::alloc::{AllocError, Global};
 use std::fmt::{self, Debug, Formatter};
@@ -74,11 +74,11 @@ impl<H: MessageHead> Debug for MessageReader<H> {
 }
 
 impl MessageReader<Head> {
-    ghost use Rattle.hx_framing.specs.RequestState.{RepresentsStream, weight};
+    ghost use Rattle.hx_framing.specs.RequestState.{ReaderRepresentsStream, weight};
 
     /// A reader of an empty stream. Contents have at most `max_body` bytes.
     pub fn new(alloc: Global, max_body: u64) -> RequestReader
-        ensures represents { RepresentsStream result (empty_stream_progress max_body false) }
+        ensures represents { ReaderRepresentsStream result (empty_stream_progress max_body false) }
         ensures weight { weight result ≤ 1 }
     {
         MessageReader {
@@ -92,7 +92,7 @@ impl MessageReader<Head> {
 
     /// Whether each byte of the stream belongs to a request that was given: nothing of a next one has come.
     pub fn is_between_requests(&self) -> bool
-        ensures { (p : Progress Request) → RepresentsStream self.now p → result ≡ true
+        ensures { (p : Progress Request) → ReaderRepresentsStream self.now p → result ≡ true
             → StreamSpells p.max_body p.stream p.given [] }
     {
         self.has_begun_none()
@@ -100,12 +100,12 @@ impl MessageReader<Head> {
 }
 
 impl MessageReader<StatusHead> {
-    ghost use Rattle.hx_framing.specs.ResponseState.{RepresentsStream, weight};
+    ghost use Rattle.hx_framing.specs.ResponseState.{ReaderRepresentsStream, weight};
 
     /// A reader of an empty stream. A content has at most `max_body` bytes; `to_head` says that it
     /// answers a HEAD.
     pub fn new(alloc: Global, max_body: u64, to_head: bool) -> ResponseReader
-        ensures represents { RepresentsStream result (empty_stream_progress max_body to_head) }
+        ensures represents { ReaderRepresentsStream result (empty_stream_progress max_body to_head) }
         ensures weight { weight result ≡ 0 }
     {
         MessageReader {
@@ -121,7 +121,8 @@ impl MessageReader<StatusHead> {
 impl<H: MessageHead> MessageReader<H> {
     ghost use Rattle.hx_framing.specs.declared.readers.progress.ReaderPhase.TheVariants as phase;
     ghost use Rattle.hx_framing.specs.declared.frame_fault.FrameFault.{FrameFault};
-    ghost use Rattle.hx_framing.specs.ReaderSteps.{StepsTo, HeadProgressLeadsReaderOn, answer_of_progress, bytes_taken};
+    ghost use Rattle.hx_framing.specs.ReaderSteps.{StepsTo, HeadProgressLeadsReaderOn, answer_of_progress};
+    ghost use Rattle.hx_framing.specs.ReaderSteps.{number_of_bytes_taken};
     ghost use Rattle.hx_framing.specs.ReaderSteps.{state_after_progress};
     ghost use Rattle.hx_framing.specs.ReaderState.{kept, KeepsOnlyUnfinished};
 
@@ -145,8 +146,8 @@ impl<H: MessageHead> MessageReader<H> {
 
     /// Takes the next piece of the stream, before `finish`. An `Err` changes nothing.
     pub fn feed(&mut self, piece: &[u8]) -> Result<(), AllocError>
-        ensures represents { OnOk result ((p : Progress H.Message) → H.kind.RepresentsStream self.old p
-            → p.ended ≡ false → H.kind.RepresentsStream self.new (progress_after_piece p piece.now)) }
+        ensures represents { OnOk result ((p : Progress H.Message) → H.kind.ReaderRepresentsStream self.old p
+            → p.ended ≡ false → H.kind.ReaderRepresentsStream self.new (progress_after_piece p piece.now)) }
         ensures weight { H.kind.weight self.new ≤ H.kind.weight self.old + 2 * length piece.now }
         ensures given { self.old.phase ≡ phase.Given → self.new ≡ self.old }
         ensures faulty { (fault : FrameFault) → self.old.phase ≡ phase.Faulty fault → self.new ≡ self.old }
@@ -164,8 +165,8 @@ impl<H: MessageHead> MessageReader<H> {
 
     /// The stream has ended. Nothing is allocated.
     pub fn finish(&mut self)
-        ensures represents { (p : Progress H.Message) → H.kind.RepresentsStream self.old p
-            → H.kind.RepresentsStream self.new (progress_after_end p) }
+        ensures represents { (p : Progress H.Message) → H.kind.ReaderRepresentsStream self.old p
+            → H.kind.ReaderRepresentsStream self.new (progress_after_end p) }
         ensures weight { H.kind.weight self.new ≤ H.kind.weight self.old + 1 }
         ensures same { self.new ≡ record self.old { ended = true } }
     {
@@ -174,14 +175,14 @@ impl<H: MessageHead> MessageReader<H> {
 
     /// Whether the stream has ended.
     pub fn has_ended(&self) -> bool
-        ensures { (p : Progress H.Message) → H.kind.RepresentsStream self.now p → result ≡ p.ended }
+        ensures { (p : Progress H.Message) → H.kind.ReaderRepresentsStream self.now p → result ≡ p.ended }
     {
         self.ended
     }
 
     /// Whether a look tells that nothing is due yet: each byte belongs to a message that was given, and more may come.
     pub fn is_quiet(&self) -> bool
-        ensures { result ≡ true → (p : Progress H.Message) → H.kind.RepresentsStream self.now p
+        ensures { result ≡ true → (p : Progress H.Message) → H.kind.ReaderRepresentsStream self.now p
             → H.kind.Answers p Next.More }
     {
         self.has_begun_none() && !self.ended
@@ -198,16 +199,16 @@ impl<H: MessageHead> MessageReader<H> {
     /// What is due after the messages given. An `Err` changes nothing. Out of memory hides neither the end nor a
     /// refusal of bytes that are no head; a fault behind a head it may hide, since the head is copied first.
     pub fn next(&mut self, alloc: Global) -> Result<Next<H::Message>, AllocError>
-        ensures answers { IfOk result (λ answer. (p : Progress H.Message) → H.kind.RepresentsStream self.old p
+        ensures answers { IfOk result (λ answer. (p : Progress H.Message) → H.kind.ReaderRepresentsStream self.old p
             → H.kind.Answers p answer) }
-        ensures represents { IfOk result (λ answer. (p : Progress H.Message) → H.kind.RepresentsStream self.old p
-            → H.kind.RepresentsStream self.new (progress_after_answer p answer)) }
-        ensures weight { IfOk result (λ answer. H.kind.weight self.new + cost_of_answer answer
+        ensures represents { IfOk result (λ answer. (p : Progress H.Message) → H.kind.ReaderRepresentsStream self.old p
+            → H.kind.ReaderRepresentsStream self.new (progress_after_answer p answer)) }
+        ensures weight { IfOk result (λ answer. H.kind.weight self.new + weight_used_by_answer answer
             ≤ H.kind.weight self.old) }
         ensures due { IfOk result (λ answer. H.kind.DueIsWeighed (H.kind.weight self.new) answer) }
         ensures unfinished { IfOk result (λ answer. answer ≡ Next.More → KeepsOnlyUnfinished self.new) }
         ensures room { self.old.spare ≤ self.new.spare }
-        ensures memory_last { OnErr result ((p : Progress H.Message) → H.kind.RepresentsStream self.old p
+        ensures memory_last { OnErr result ((p : Progress H.Message) → H.kind.ReaderRepresentsStream self.old p
             → H.kind.OutOfMemoryIsAllowed p) }
         ensures err { OnErr result (self.new ≡ self.old) }
     {
@@ -225,7 +226,7 @@ impl<H: MessageHead> MessageReader<H> {
     fn step(&mut self, alloc: Global) -> Result<Next<H::Message>, AllocError>
         ensures steps { IfOk result (λ answer. StepsTo H.kind self.old answer self.new) }
         ensures room { self.old.spare ≤ self.new.spare }
-        ensures memory_last { OnErr result ((p : Progress H.Message) → H.kind.RepresentsStream self.old p
+        ensures memory_last { OnErr result ((p : Progress H.Message) → H.kind.ReaderRepresentsStream self.old p
             → H.kind.OutOfMemoryIsAllowed p) }
         ensures err { OnErr result (self.new ≡ self.old) }
     {
@@ -247,10 +248,10 @@ impl<H: MessageHead> MessageReader<H> {
     }
 
     /// What stands at the front of the unread bytes, before a continue was given.
-    fn look(&mut self, alloc: Global) -> Result<HeadProgress<H, H::Message>, AllocError>
+    fn look(&mut self, alloc: Global) -> Result<MessageProgress<H, H::Message>, AllocError>
         requires { self.old.phase ≡ phase.BeforeHead }
         ensures found { IfOk result (HeadProgressLeadsReaderOn H.kind self.old) }
-        ensures memory_last { OnErr result ((p : Progress H.Message) → H.kind.RepresentsStream self.old p
+        ensures memory_last { OnErr result ((p : Progress H.Message) → H.kind.ReaderRepresentsStream self.old p
             → H.kind.OutOfMemoryIsAllowed p) }
         ensures same { self.new ≡ self.old }
     {
@@ -264,8 +265,8 @@ impl<H: MessageHead> MessageReader<H> {
     }
 
     /// Goes on after what was found before a head.
-    fn pass(&mut self, found: HeadProgress<H, H::Message>) -> Next<H::Message>
-        requires within { bytes_taken found ≤ length self.old.unread }
+    fn pass(&mut self, found: MessageProgress<H, H::Message>) -> Next<H::Message>
+        requires within { number_of_bytes_taken found ≤ length self.old.unread }
         requires waiting { self.old.phase ≡ phase.BeforeHead }
         requires open { answer_of_progress found ≡ Next.More
             → KeepsOnlyUnfinished (state_after_progress H.kind self.old self.old.spare found) }
@@ -274,31 +275,31 @@ impl<H: MessageHead> MessageReader<H> {
         ensures room { self.old.spare ≤ self.new.spare }
     {
         match found {
-            HeadProgress::Incomplete(n) => {
+            MessageProgress::Incomplete(n) => {
                 self.unread.take_front(n);
                 Next::More
             }
-            HeadProgress::NeedsContinue(head, content, n) => {
+            MessageProgress::NeedsContinue(head, content, n) => {
                 self.unread.take_front(n);
                 self.phase = ReaderPhase::InContent(head, content);
                 Next::NeedsContinue
             }
-            HeadProgress::InContent(head, content, n) => {
+            MessageProgress::InContent(head, content, n) => {
                 self.unread.take_front(n);
                 self.unread.note_no_line_feed();
                 self.phase = ReaderPhase::InContent(head, content);
                 Next::More
             }
-            HeadProgress::Message(message, n) => {
+            MessageProgress::Message(message, n) => {
                 self.unread.take_front(n);
                 self.phase = H::behind_message();
                 Next::Message(message)
             }
-            HeadProgress::Faulty(fault) => {
+            MessageProgress::Faulty(fault) => {
                 self.phase = ReaderPhase::Faulty(fault);
                 Next::Refused(fault)
             }
-            HeadProgress::Ended => Next::End,
+            MessageProgress::Ended => Next::End,
         }
     }
 
@@ -313,7 +314,7 @@ impl<H: MessageHead> MessageReader<H> {
             StepsTo H.kind (record self.old { phase = phase.InContent head content }) answer self.new) }
         ensures room { self.old.spare ≤ self.new.spare }
         ensures memory_last { OnErr result ((p : Progress H.Message)
-            → H.kind.RepresentsStream (record self.old { phase = phase.InContent head content }) p
+            → H.kind.ReaderRepresentsStream (record self.old { phase = phase.InContent head content }) p
             → H.kind.OutOfMemoryIsAllowed p) }
         ensures err { OnErr result (self.new ≡ record self.old { phase = phase.InContent head content }) }
     {

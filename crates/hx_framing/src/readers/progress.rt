@@ -16,7 +16,7 @@ pub struct UnreadStreamBytes<'a> {
 /// How far a message has come in unread bytes, from its head on: what is due, and how many of them
 /// it takes. H is a head, M a message.
 #[derive(Drop)]
-pub enum HeadProgress<H, M> {
+pub enum MessageProgress<H, M> {
     /// Nothing yet; so many bytes of interim responses stand in front.
     Incomplete(usize),
     /// A continue is due, before the content.

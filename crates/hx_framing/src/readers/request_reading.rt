@@ -15,25 +15,25 @@ use crate::lengths::framing::{RequestFraming, request_framing_of};
 use crate::limits::MOST_HEAD_BYTES;
 use crate::messages::Request;
 use crate::readers::message_head::MessageHead;
-use crate::readers::progress::{HeadProgress, ReaderPhase, UnreadStreamBytes};
+use crate::readers::progress::{MessageProgress, ReaderPhase, UnreadStreamBytes};
 use crate::slices::bytes_from_index;
 use httparse::spans::RequestSpans;
 use hx_fields::Bytes;
 use std::alloc::{AllocError, Global};
 
 /// Where no head ends within the limit.
-fn progress_without_head(rest: &UnreadStreamBytes<'_>) -> HeadProgress<Head, Request>
+fn progress_without_head(rest: &UnreadStreamBytes<'_>) -> MessageProgress<Head, Request>
     requires { head_length_of (take most_head_bytes rest.now.bytes.now) ≡ None }
     ensures { IsProgressOfBytes rest.now.max_body rest.now.ended rest.now.bytes.now result }
 {
     if rest.bytes.len() > MOST_HEAD_BYTES {
-        HeadProgress::Faulty(FrameFault::Head)
+        MessageProgress::Faulty(FrameFault::Head)
     } else if rest.ended && empty_lines_length(rest.bytes) == rest.bytes.len() {
-        HeadProgress::Ended
+        MessageProgress::Ended
     } else if rest.ended {
-        HeadProgress::Faulty(FrameFault::Truncated)
+        MessageProgress::Faulty(FrameFault::Truncated)
     } else {
-        HeadProgress::Incomplete(0)
+        MessageProgress::Incomplete(0)
     }
 }
 
@@ -44,7 +44,7 @@ fn with_request_body(
     at: usize,
     head: Head,
     body: RequestFraming,
-) -> Result<HeadProgress<Head, Request>, AllocError>
+) -> Result<MessageProgress<Head, Request>, AllocError>
     requires place { head_length_of (take most_head_bytes rest.now.bytes.now) ≡ Some at }
     requires some { 0 < at }
     requires judged { RequestHeadIsJudged (take at rest.now.bytes.now) (Ok head) }
@@ -54,7 +54,7 @@ fn with_request_body(
 {
     let mut content = Content::begun(alloc, rest.max_body, body.framing);
     if body.wants_continue {
-        return Ok(HeadProgress::NeedsContinue(head, content, at));
+        return Ok(MessageProgress::NeedsContinue(head, content, at));
     }
     // No content of a request runs until the close.
     match content.read(
@@ -64,9 +64,9 @@ fn with_request_body(
         bytes_from_index(rest.bytes, at),
         0,
     )? {
-        ContentProgress::Incomplete(n) => Ok(HeadProgress::InContent(head, content, at + n)),
-        ContentProgress::Faulty(fault) => Ok(HeadProgress::Faulty(fault)),
-        ContentProgress::Whole(content, n) => Ok(HeadProgress::Message(
+        ContentProgress::Incomplete(n) => Ok(MessageProgress::InContent(head, content, at + n)),
+        ContentProgress::Faulty(fault) => Ok(MessageProgress::Faulty(fault)),
+        ContentProgress::Whole(content, n) => Ok(MessageProgress::Message(
             head.into_request(content),
             at + n,
         )),
@@ -78,7 +78,7 @@ fn read_request(
     alloc: Global,
     rest: &UnreadStreamBytes<'_>,
     head_length: Option<usize>,
-) -> Result<HeadProgress<Head, Request>, AllocError>
+) -> Result<MessageProgress<Head, Request>, AllocError>
     requires { head_length ≡ head_length_of (take most_head_bytes rest.now.bytes.now) }
     ensures progress { IfOk result (IsProgressOfBytes rest.now.max_body rest.now.ended rest.now.bytes.now) }
     ensures memory_last { OnErr result (BytesBeginWithRequestHead rest.now.bytes.now) }
@@ -88,9 +88,9 @@ fn read_request(
     };
     let (front, _) = rest.bytes.split_at(at);
     match judge_head::<RequestSpans>(alloc, front)? {
-        Err(fault) => Ok(HeadProgress::Faulty(fault)),
+        Err(fault) => Ok(MessageProgress::Faulty(fault)),
         Ok(head) => match request_framing_of(alloc, rest.max_body, &head)? {
-            Err(fault) => Ok(HeadProgress::Faulty(fault)),
+            Err(fault) => Ok(MessageProgress::Faulty(fault)),
             Ok(body) => with_request_body(alloc, rest, at, head, body),
         },
     }
@@ -108,7 +108,7 @@ impl MessageHead for Head {
         rest: &UnreadStreamBytes<'_>,
         _to_head: bool,
         head_length: Option<usize>,
-    ) -> Result<HeadProgress<Head, Request>, AllocError> {
+    ) -> Result<MessageProgress<Head, Request>, AllocError> {
         read_request(alloc, rest, head_length)
     }
 

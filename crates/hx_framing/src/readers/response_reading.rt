@@ -5,7 +5,7 @@ ghost use Rattle.hx_framing.specs.HeadEnd.{head_length as head_length_of, most_h
 ghost use Rattle.hx_framing.specs.declared.readers.response_reading.FinalHead.TheVariants as final_head;
 ghost use Rattle.hx_framing.specs.Lengths.{framing_of_response};
 ghost use Rattle.hx_framing.specs.ResponseReading.{content_bytes_of, response_of_head};
-ghost use Rattle.hx_framing.specs.ResponseHeadProgress.{IsProgressOfBytes, FinalHeadIsFound};
+ghost use Rattle.hx_framing.specs.ResponseHeadProgress.{IsProgressOfBytes, FinalHeadSearchEndsWith};
 ghost use Rattle.hx_framing.specs.ResponseHeadProgress.{FinalHeadFollowsInterimResponses};
 
 use crate::contents::content::{Content, ContentProgress};
@@ -19,7 +19,7 @@ use crate::lengths::framing::{
 use crate::limits::MOST_HEAD_BYTES;
 use crate::messages::Response;
 use crate::readers::message_head::MessageHead;
-use crate::readers::progress::{HeadProgress, ReaderPhase, UnreadStreamBytes};
+use crate::readers::progress::{MessageProgress, ReaderPhase, UnreadStreamBytes};
 use crate::slices::bytes_from_index;
 use httparse::spans::ResponseSpans;
 use hx_fields::Bytes;
@@ -75,7 +75,7 @@ fn skip_interim(
     head_length: Option<usize>,
 ) -> Result<FinalHead, AllocError>
     requires { head_length ≡ head_length_of (take most_head_bytes bytes.now) }
-    ensures final_head { IfOk result (FinalHeadIsFound bytes.now) }
+    ensures final_head { IfOk result (FinalHeadSearchEndsWith bytes.now) }
     ensures memory_last { OnErr result (FinalHeadFollowsInterimResponses bytes.now) }
 {
     let mut at = 0;
@@ -101,17 +101,17 @@ fn skip_interim(
 fn progress_without_head(
     rest: &UnreadStreamBytes<'_>,
     at: usize,
-) -> HeadProgress<StatusHead, Response>
+) -> MessageProgress<StatusHead, Response>
     requires within { at ≤ length rest.now.bytes.now }
-    requires open { FinalHeadIsFound rest.now.bytes.now (final_head.Incomplete at) }
+    requires open { FinalHeadSearchEndsWith rest.now.bytes.now (final_head.Incomplete at) }
     ensures { (to_head : Bool) → IsProgressOfBytes rest.now.max_body to_head rest.now.ended rest.now.bytes.now result }
 {
     if rest.bytes.len() - at > MOST_HEAD_BYTES {
-        HeadProgress::Faulty(FrameFault::Head)
+        MessageProgress::Faulty(FrameFault::Head)
     } else if rest.ended {
-        HeadProgress::Faulty(FrameFault::Truncated)
+        MessageProgress::Faulty(FrameFault::Truncated)
     } else {
-        HeadProgress::Incomplete(at)
+        MessageProgress::Incomplete(at)
     }
 }
 
@@ -123,8 +123,8 @@ fn with_framing(
     at: usize,
     head: StatusHead,
     framing: Framing,
-) -> Result<HeadProgress<StatusHead, Response>, AllocError>
-    requires final_head { FinalHeadIsFound rest.now.bytes.now (final_head.Complete head at) }
+) -> Result<MessageProgress<StatusHead, Response>, AllocError>
+    requires final_head { FinalHeadSearchEndsWith rest.now.bytes.now (final_head.Complete head at) }
     requires framing { framing_of_response rest.now.max_body to_head head ≡ Ok framing }
     ensures progress { IfOk result (IsProgressOfBytes rest.now.max_body to_head rest.now.ended rest.now.bytes.now) }
     ensures memory_last { OnErr result (FinalHeadFollowsInterimResponses rest.now.bytes.now) }
@@ -137,10 +137,10 @@ fn with_framing(
         bytes_from_index(rest.bytes, at),
         0,
     )? {
-        ContentProgress::Incomplete(n) => Ok(HeadProgress::InContent(head, content, at + n)),
-        ContentProgress::Faulty(fault) => Ok(HeadProgress::Faulty(fault)),
+        ContentProgress::Incomplete(n) => Ok(MessageProgress::InContent(head, content, at + n)),
+        ContentProgress::Faulty(fault) => Ok(MessageProgress::Faulty(fault)),
         ContentProgress::Whole(content, n) => {
-            Ok(HeadProgress::Message(response_of_head(alloc, to_head, head, content), at + n))
+            Ok(MessageProgress::Message(response_of_head(alloc, to_head, head, content), at + n))
         }
     }
 }
@@ -151,17 +151,17 @@ fn read_response(
     rest: &UnreadStreamBytes<'_>,
     to_head: bool,
     head_length: Option<usize>,
-) -> Result<HeadProgress<StatusHead, Response>, AllocError>
+) -> Result<MessageProgress<StatusHead, Response>, AllocError>
     requires { head_length ≡ head_length_of (take most_head_bytes rest.now.bytes.now) }
     ensures progress { IfOk result (IsProgressOfBytes rest.now.max_body to_head rest.now.ended rest.now.bytes.now) }
     ensures memory_last { OnErr result (FinalHeadFollowsInterimResponses rest.now.bytes.now) }
 {
     match skip_interim(alloc, rest.bytes, head_length)? {
         FinalHead::Incomplete(at) => Ok(progress_without_head(rest, at)),
-        FinalHead::Faulty(fault) => Ok(HeadProgress::Faulty(fault)),
+        FinalHead::Faulty(fault) => Ok(MessageProgress::Faulty(fault)),
         FinalHead::Complete(head, at) => {
             match framing_of_response(alloc, rest.max_body, to_head, &head)? {
-                Err(fault) => Ok(HeadProgress::Faulty(fault)),
+                Err(fault) => Ok(MessageProgress::Faulty(fault)),
                 Ok(framing) => with_framing(alloc, rest, to_head, at, head, framing),
             }
         }
@@ -169,18 +169,18 @@ fn read_response(
 }
 
 impl MessageHead for StatusHead {
-    ghost use Rattle.hx_framing.specs.ResponseState.{response_kind};
+    ghost use Rattle.hx_framing.specs.ResponseState.{response_reader_kind};
 
     type Message = Response;
 
-    ghost kind = { response_kind };
+    ghost kind = { response_reader_kind };
 
     fn read_next_head(
         alloc: Global,
         rest: &UnreadStreamBytes<'_>,
         to_head: bool,
         head_length: Option<usize>,
-    ) -> Result<HeadProgress<StatusHead, Response>, AllocError> {
+    ) -> Result<MessageProgress<StatusHead, Response>, AllocError> {
         read_response(alloc, rest, to_head, head_length)
     }
 

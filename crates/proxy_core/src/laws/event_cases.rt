@@ -8,14 +8,14 @@ ghost use Rattle.proxy_core.specs.declared.outcome.Outcome.TheVariants.{Forward,
 ghost use Rattle.proxy_core.specs.Traces.{trace_of_events};
 ghost use Rattle.proxy_core.specs.Promises.{latest_request_of, outcome_ends_exchange, outcome_goes_forward};
 ghost use Rattle.proxy_core.specs.Promises.{is_arrival_event, outcome_is_reply, reply_uses_no_stored_response};
-ghost use Rattle.proxy_core.specs.Promises.{some_item_overtakes_key, count_of_outcomes};
-ghost use Rattle.proxy_core.specs.TraceMeaning.{exchange_has_ended, count_of_stored, opens_an_exchange};
+ghost use Rattle.proxy_core.specs.Promises.{some_item_overtakes_key, count_of_outcomes_of_id};
+ghost use Rattle.proxy_core.specs.TraceMeaning.{exchange_has_ended, count_of_items_that_store, outcome_opens_exchange};
 ghost use Rattle.proxy_core.specs.Carrying.{is_arrival_or_wake};
-ghost use Rattle.proxy_core.specs.Waiting.{exchange_has_closed, is_wake_event, request_wait_timed_out};
+ghost use Rattle.proxy_core.specs.Waiting.{open_exchange_has_ended, is_wake_event, request_wait_timed_out};
 ghost use Rattle.proxy_core.specs.Waiting.{request_was_woken};
 ghost use Rattle.proxy_core.specs.Cases.{key_of_path, response_with};
 ghost use Rattle.proxy_core.specs.WrongTraces.{response_fresh_for_a_minute, get_a, get_b, forward_over_line_3};
-ghost use Rattle.proxy_core.specs.WrongTraces.{trace_that_sends_invalidated_a, trace_that_sends_a_after_delete};
+ghost use Rattle.proxy_core.specs.WrongTraces.{trace_that_sends_invalidated_a, trace_that_sends_stored_a_after_delete};
 ghost use Rattle.proxy_core.specs.WrongTraces.{item_with_outcome};
 ghost use Rattle.proxy_core.specs.WrongTraces.{reply_without_store, reply_that_sends_stored, trace_with_two_replies};
 
@@ -51,17 +51,17 @@ pub fn worked_kinds_of_outcomes()
     ensures forward_replies { outcome_is_reply forward_over_line_3 ≡ false }
     ensures wait_replies { outcome_is_reply (Waits 1) ≡ false }
     ensures end_replies { outcome_is_reply Ended ≡ false }
-    ensures reply_starts { opens_an_exchange (reply_without_store []) ≡ false }
-    ensures forward_starts { opens_an_exchange forward_over_line_3 ≡ true }
-    ensures wait_starts { opens_an_exchange (Waits 1) ≡ true }
-    ensures end_starts { opens_an_exchange Ended ≡ false }
+    ensures reply_starts { outcome_opens_exchange (reply_without_store []) ≡ false }
+    ensures forward_starts { outcome_opens_exchange forward_over_line_3 ≡ true }
+    ensures wait_starts { outcome_opens_exchange (Waits 1) ≡ true }
+    ensures end_starts { outcome_opens_exchange Ended ≡ false }
     ensures reply_ends { outcome_ends_exchange (reply_without_store []) ≡ true }
     ensures forward_ends { outcome_ends_exchange forward_over_line_3 ≡ false }
     ensures wait_ends { outcome_ends_exchange (Waits 1) ≡ false }
     ensures end_ends { outcome_ends_exchange Ended ≡ true }
     ensures no_more_goes { outcome_goes_forward WaitsNoMore ≡ false }
     ensures no_more_replies { outcome_is_reply WaitsNoMore ≡ false }
-    ensures no_more_starts { opens_an_exchange WaitsNoMore ≡ false }
+    ensures no_more_starts { outcome_opens_exchange WaitsNoMore ≡ false }
     ensures no_more_ends { outcome_ends_exchange WaitsNoMore ≡ false }
     ensures own_is_not_held { reply_uses_no_stored_response (reply_without_store []) ≡ true }
     ensures stored_is_held { reply_uses_no_stored_response (reply_that_sends_stored 1 []) ≡ false }
@@ -74,10 +74,10 @@ pub fn worked_counts_of_traces()
         (forward_over_line_3 ∷ reply_without_store [] ∷ [])
         ≡ item_with_outcome (Arrive 2 2 get_b) (reply_without_store [])
         ∷ item_with_outcome (Arrive 1 1 get_a) forward_over_line_3 ∷ [] }
-    ensures forwards { count_of_outcomes outcome_goes_forward 1 trace_with_two_replies ≡ 1 }
-    ensures replies { count_of_outcomes outcome_is_reply 1 trace_with_two_replies ≡ 2 }
-    ensures of_another { count_of_outcomes outcome_is_reply 2 trace_with_two_replies ≡ 0 }
-    ensures stored { count_of_stored trace_that_sends_invalidated_a ≡ 1 }
+    ensures forwards { count_of_outcomes_of_id outcome_goes_forward 1 trace_with_two_replies ≡ 1 }
+    ensures replies { count_of_outcomes_of_id outcome_is_reply 1 trace_with_two_replies ≡ 2 }
+    ensures of_another { count_of_outcomes_of_id outcome_is_reply 2 trace_with_two_replies ≡ 0 }
+    ensures stored { count_of_items_that_store trace_that_sends_invalidated_a ≡ 1 }
     ensures asked { latest_request_of 1 trace_with_two_replies ≡ Some get_a }
     ensures asked_last { latest_request_of 1 (item_with_outcome (Arrive 9 1 get_b) forward_over_line_3
         ∷ trace_with_two_replies)
@@ -85,11 +85,12 @@ pub fn worked_counts_of_traces()
     ensures asked_by_nobody { latest_request_of 2 trace_with_two_replies ≡ None }
     ensures ended { exchange_has_ended 1 trace_with_two_replies ≡ true }
     ensures another_ended { exchange_has_ended 2 trace_with_two_replies ≡ false }
-    ensures closed { exchange_has_closed 1 trace_with_two_replies ≡ true }
-    ensures not_by_its_arrival { exchange_has_closed 1 (item_with_outcome (Arrive 1 1 get_a) (reply_without_store [])
+    ensures closed { open_exchange_has_ended 1 trace_with_two_replies ≡ true }
+    ensures not_by_its_arrival { open_exchange_has_ended 1
+        (item_with_outcome (Arrive 1 1 get_a) (reply_without_store [])
         ∷ [])
         ≡ false }
-    ensures another_closed { exchange_has_closed 2 trace_with_two_replies ≡ false }
+    ensures another_closed { open_exchange_has_ended 2 trace_with_two_replies ≡ false }
     ensures woken { request_was_woken 2 (item_with_outcome (Wake 5 2) forward_over_line_3 ∷ trace_with_two_replies)
         ≡ true }
     ensures another_woken { request_was_woken 1 (item_with_outcome (Wake 5 2) forward_over_line_3
@@ -105,9 +106,9 @@ pub fn worked_counts_of_traces()
     ensures invalidated { some_item_overtakes_key (key_of_path (codes "/a")) trace_that_sends_invalidated_a [] ≡ true }
     ensures another_key { some_item_overtakes_key (key_of_path (codes "/b")) trace_that_sends_invalidated_a [] ≡ false }
     ensures by_a_304 { some_item_overtakes_key (key_of_path (codes "/a"))
-        (trace_that_sends_a_after_delete (response_with 304 [])) []
+        (trace_that_sends_stored_a_after_delete (response_with 304 [])) []
         ≡ true }
     ensures by_no_error { some_item_overtakes_key (key_of_path (codes "/a"))
-        (trace_that_sends_a_after_delete (response_with 404 [])) []
+        (trace_that_sends_stored_a_after_delete (response_with 404 [])) []
         ≡ false }
 {}

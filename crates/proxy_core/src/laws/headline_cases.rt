@@ -13,7 +13,8 @@ ghost use Rattle.proxy_core.specs.declared.outcome.Outcome.TheVariants.{Reply, F
 ghost use Rattle.proxy_core.specs.Replies.{passed_answer_text};
 ghost use Rattle.proxy_core.specs.Outcomes.{forward_text, outcome_of_purge, outcome_of_refusal};
 ghost use Rattle.proxy_core.specs.Cases.{response_with, cache_control, etag_field, forwarded_on_miss};
-ghost use Rattle.proxy_core.specs.WrongTraces.{purge_all_to_expire, reply_that_expires, arbitrary_report_of_reply};
+ghost use Rattle.proxy_core.specs.WrongTraces.{purge_all_to_expire, purge_reply_that_expires};
+ghost use Rattle.proxy_core.specs.WrongTraces.{arbitrary_report_of_reply};
 ghost use Rattle.proxy_core.specs.WrongTraces.{HeadlineRefuses, get_a_in_language, request_by_method};
 ghost use Rattle.proxy_core.specs.WrongTraces.{events_that_revalidate, answer_varying_by_language, three_line_table};
 ghost use Rattle.proxy_core.specs.WrongTraces.{response_fresh_for_a_minute};
@@ -24,19 +25,20 @@ ghost use Rattle.proxy_core.specs.WrongTraces.{events_before_a_wake, response_30
 ghost use Rattle.proxy_core.specs.WrongTraces.{get_a_only_if_cached, post_a, reply_that_stores, reply_without_store};
 ghost use Rattle.proxy_core.specs.WrongTraces.{events_with_second_forward, reply_that_sends_stored};
 ghost use Rattle.proxy_core.specs.WrongTraces.{events_that_invalidate_a_by_a_304, delete_a};
-ghost use Rattle.proxy_core.specs.WrongTraces.{about_as_refused, about_without_origin_line, about_with_origin_line_3};
+ghost use Rattle.proxy_core.specs.WrongTraces.{report_as_refused, report_without_origin_line};
+ghost use Rattle.proxy_core.specs.WrongTraces.{report_with_origin_line_3};
 ghost use Rattle.proxy_core.specs.WrongTraces.{right_outcome_with_changed_about, trace_with_wrong_item};
-ghost use Rattle.proxy_core.specs.WrongTraces.{about_with_status_304, about_without_content};
-ghost use Rattle.hx_allow.specs.Matching.{route_over};
+ghost use Rattle.proxy_core.specs.WrongTraces.{report_with_status_304, report_without_content};
+ghost use Rattle.hx_allow.specs.Matching.{route_over_line};
 
 /// A request that the table denies reaches neither origin nor store, and is told its line; one that
 /// it allows isn't denied.
 pub fn the_headline_refuses_what_the_table_forbids()
     ensures forwarded { HeadlineRefuses (trace_with_wrong_item [] (Arrive 100 1 get_admin)
-        (Forward (route_over 1) (forward_text three_line_table (route_over 1) get_admin None))) }
+        (Forward (route_over_line 1) (forward_text three_line_table (route_over_line 1) get_admin None))) }
     ensures forwarded_by_another_line { HeadlineRefuses
-        (trace_with_wrong_item [] (Arrive 100 1 get_admin) (Forward (route_over 3) (forward_text three_line_table
-        (route_over 3) get_admin None))) }
+        (trace_with_wrong_item [] (Arrive 100 1 get_admin) (Forward (route_over_line 3) (forward_text three_line_table
+        (route_over_line 3) get_admin None))) }
     ensures sent_from_the_store { HeadlineRefuses (trace_with_wrong_item events_that_store_a (Arrive 110 2 get_admin)
         (reply_that_sends_stored 1 (codes "x"))) }
     ensures named_another_line { HeadlineRefuses (trace_with_wrong_item [] (Arrive 100 1 get_admin)
@@ -59,41 +61,43 @@ pub fn the_headline_refuses_wrong_purges()
     ensures another_goes { HeadlineRefuses (trace_with_wrong_item events_that_store_a (Arrive 110 2 purge_admin)
         (reply_that_stores [] None (1 ∷ []))) }
     ensures expires_without_the_word { HeadlineRefuses (trace_with_wrong_item events_that_store_a
-        (Arrive 110 2 purge_admin) (reply_that_expires [])) }
+        (Arrive 110 2 purge_admin) (purge_reply_that_expires [])) }
     ensures goes_though_it_stays { HeadlineRefuses (trace_with_wrong_item events_that_store_a
         (Arrive 110 2 purge_all_to_expire) (reply_that_stores [] None (1 ∷ []))) }
     ensures expires_nothing { HeadlineRefuses (trace_with_wrong_item events_that_store_a
-        (Arrive 110 2 purge_all_to_expire) (reply_that_expires [])) }
+        (Arrive 110 2 purge_all_to_expire) (purge_reply_that_expires [])) }
     ensures expires_by_a_get { HeadlineRefuses (trace_with_wrong_item events_that_store_a
-        (Arrive 110 2 get_a) (reply_that_expires (1 ∷ []))) }
+        (Arrive 110 2 get_a) (purge_reply_that_expires (1 ∷ []))) }
 {}
 
 /// What goes forward is the client's request, to the origin of its line, with the proxy's
 /// conditions where and when it has some.
 pub fn the_headline_refuses_altered_requests()
     ensures another_target { HeadlineRefuses (trace_with_wrong_item [] (Arrive 100 1 get_a)
-        (Forward (route_over 3) (forward_text three_line_table (route_over 3) get_admin None))) }
+        (Forward (route_over_line 3) (forward_text three_line_table (route_over_line 3) get_admin None))) }
     ensures another_origin { HeadlineRefuses (trace_with_wrong_item [] (Arrive 100 1 get_a)
-        (Forward (route_over 2) (forward_text three_line_table (route_over 2) get_a None))) }
+        (Forward (route_over_line 2) (forward_text three_line_table (route_over_line 2) get_a None))) }
     ensures without_conditions { HeadlineRefuses
         (trace_with_wrong_item events_that_store_a (Arrive 200 2 get_a)
-        (Forward (route_over 3) (forward_text three_line_table (route_over 3) get_a None))) }
+        (Forward (route_over_line 3) (forward_text three_line_table (route_over_line 3) get_a None))) }
     ensures with_conditions_of_nothing { HeadlineRefuses (trace_with_wrong_item [] (Arrive 100 1 get_a)
-        (Forward (route_over 3) (forward_text three_line_table (route_over 3) get_a
+        (Forward (route_over_line 3) (forward_text three_line_table (route_over_line 3) get_a
         (Some (record { serial = 1; sent = record { etag = Some (codes "\"v\""); modified = None } }))))) }
     ensures with_conditions_a_second_time { HeadlineRefuses
         (trace_with_wrong_item events_that_revalidate (Answer 201 2 (response_304 (etag_field (codes "\"w\"") ∷ [])))
-        (Forward (route_over 3) (forward_text three_line_table (route_over 3) get_a
+        (Forward (route_over_line 3) (forward_text three_line_table (route_over_line 3) get_a
         (Some (record { serial = 1; sent = record { etag = Some (codes "\"v\""); modified = None } }))))) }
     ensures another_origin_at_a_wake { HeadlineRefuses
-        (trace_with_wrong_item events_before_a_wake (Wake 102 2) (Forward (route_over 2) (forward_text three_line_table
-        (route_over 2) get_a None))) }
+        (trace_with_wrong_item events_before_a_wake (Wake 102 2)
+        (Forward (route_over_line 2) (forward_text three_line_table
+        (route_over_line 2) get_a None))) }
     ensures another_target_at_a_wake { HeadlineRefuses
-        (trace_with_wrong_item events_before_a_wake (Wake 102 2) (Forward (route_over 3) (forward_text three_line_table
-        (route_over 3) get_b None))) }
+        (trace_with_wrong_item events_before_a_wake (Wake 102 2)
+        (Forward (route_over_line 3) (forward_text three_line_table
+        (route_over_line 3) get_b None))) }
     ensures one_that_takes_no_answer { HeadlineRefuses
         (trace_with_wrong_item [] (Arrive 100 1 get_a_only_if_cached)
-        (Forward (route_over 3) (forward_text three_line_table (route_over 3) get_a_only_if_cached None))) }
+        (Forward (route_over_line 3) (forward_text three_line_table (route_over_line 3) get_a_only_if_cached None))) }
 {}
 
 /// No client is left without its answer: its request reaches cache or origin, and each step of its
@@ -107,15 +111,15 @@ pub fn the_headline_refuses_missing_answers()
         (Answer 101 1 response_fresh_for_a_minute) (Waits 3)) }
     ensures goes_again_for_nothing { HeadlineRefuses
         (trace_with_wrong_item (Arrive 100 1 get_a ∷ []) (Answer 101 1 response_fresh_for_a_minute)
-        (Forward (route_over 3) (forward_text three_line_table (route_over 3) get_a None))) }
+        (Forward (route_over_line 3) (forward_text three_line_table (route_over_line 3) get_a None))) }
     ensures goes_a_third_time { HeadlineRefuses (trace_with_wrong_item events_with_second_forward
         (Answer 202 2 (response_304 (etag_field (codes "\"w\"") ∷ [])))
-        (Forward (route_over 3) (forward_text three_line_table (route_over 3) get_a None))) }
+        (Forward (route_over_line 3) (forward_text three_line_table (route_over_line 3) get_a None))) }
     ensures ends_at_a_failure { HeadlineRefuses (trace_with_wrong_item (Arrive 100 1 get_a ∷ [])
         (Fail 101 1 kinds.Refused) Ended) }
     ensures goes_again_at_a_failure { HeadlineRefuses
         (trace_with_wrong_item (Arrive 100 1 get_a ∷ []) (Fail 101 1 kinds.Refused)
-        (Forward (route_over 3) (forward_text three_line_table (route_over 3) get_a None))) }
+        (Forward (route_over_line 3) (forward_text three_line_table (route_over_line 3) get_a None))) }
     ensures ends_at_its_wake { HeadlineRefuses (trace_with_wrong_item events_before_a_wake (Wake 102 2) Ended) }
     ensures answers_who_is_gone { HeadlineRefuses (trace_with_wrong_item (Arrive 100 1 get_a ∷ []) (Abandon 1)
         (reply_without_store (codes "x"))) }
@@ -124,7 +128,7 @@ pub fn the_headline_refuses_missing_answers()
 /// Each event comes to an exchange that is open for it.
 pub fn the_headline_refuses_impossible_events()
     ensures id_taken { HeadlineRefuses (trace_with_wrong_item (Arrive 100 1 get_a ∷ []) (Arrive 101 1 get_b)
-        (Forward (route_over 3) (forward_text three_line_table (route_over 3) get_b None))) }
+        (Forward (route_over_line 3) (forward_text three_line_table (route_over_line 3) get_b None))) }
     ensures answer_to_nobody { HeadlineRefuses (trace_with_wrong_item [] (Answer 101 1 response_fresh_for_a_minute)
         (reply_without_store (codes "x"))) }
     ensures two_replies { HeadlineRefuses
@@ -136,15 +140,16 @@ pub fn the_headline_refuses_impossible_events()
         (Fail 101 2 kinds.Refused) (reply_without_store (codes "x"))) }
     ensures released_while_its_leader_is_open { HeadlineRefuses
         (trace_with_wrong_item events_where_one_waits (Wake 101 2)
-        (Forward (route_over 3) (forward_text three_line_table
-        (route_over 3) get_a None))) }
+        (Forward (route_over_line 3) (forward_text three_line_table
+        (route_over_line 3) get_a None))) }
     ensures woken_at_its_origin { HeadlineRefuses
         (trace_with_wrong_item (Arrive 100 1 get_a ∷ []) (Wake 101 1)
-        (Forward (route_over 3) (forward_text three_line_table (route_over 3) get_a None))) }
+        (Forward (route_over_line 3) (forward_text three_line_table (route_over_line 3) get_a None))) }
     ensures gone_though_never_there { HeadlineRefuses (trace_with_wrong_item [] (Abandon 1) Ended) }
     ensures after_the_end_of_time { HeadlineRefuses
-        (trace_with_wrong_item [] (Arrive 253402300800 1 get_a) (Forward (route_over 3) (forward_text three_line_table
-        (route_over 3) get_a None))) }
+        (trace_with_wrong_item [] (Arrive 253402300800 1 get_a)
+        (Forward (route_over_line 3) (forward_text three_line_table
+        (route_over_line 3) get_a None))) }
 {}
 
 /// A stored response is sent where the rules let it be, that one and as it is, and nowhere else.
@@ -185,7 +190,7 @@ pub fn the_headline_refuses_what_may_not_be_sent()
         (Answer 201 2 (response_with 503 [])) (reply_that_sends_stored 1 (codes "x"))) }
     ensures fresh_is_asked_about { HeadlineRefuses
         (trace_with_wrong_item events_that_store_a (Arrive 110 2 get_a)
-        (Forward (route_over 3) (forward_text three_line_table (route_over 3) get_a None))) }
+        (Forward (route_over_line 3) (forward_text three_line_table (route_over_line 3) get_a None))) }
     ensures error_is_passed_on { HeadlineRefuses
         (trace_with_wrong_item (Arrive 200 2 get_a ∷ Answer 101 1 answer_with_stale_if_error
         ∷ Arrive 100 1 get_a ∷ []) (Answer 201 2 (response_with 503 []))
@@ -237,17 +242,17 @@ pub fn the_headline_refuses_wrong_rule_names()
 /// origin was asked.
 pub fn the_headline_refuses_wrong_reports()
     ensures another_status { HeadlineRefuses (trace_with_wrong_item events_that_store_a (Arrive 110 2 get_a)
-        (right_outcome_with_changed_about about_with_status_304 events_that_store_a (Arrive 110 2 get_a))) }
+        (right_outcome_with_changed_about report_with_status_304 events_that_store_a (Arrive 110 2 get_a))) }
     ensures a_hit_told_as_refused { HeadlineRefuses (trace_with_wrong_item events_that_store_a (Arrive 110 2 get_a)
-        (right_outcome_with_changed_about about_as_refused events_that_store_a (Arrive 110 2 get_a))) }
+        (right_outcome_with_changed_about report_as_refused events_that_store_a (Arrive 110 2 get_a))) }
     ensures a_content_told_as_none { HeadlineRefuses (trace_with_wrong_item events_that_store_a (Arrive 110 2 get_a)
-        (right_outcome_with_changed_about about_without_content events_that_store_a (Arrive 110 2 get_a))) }
+        (right_outcome_with_changed_about report_without_content events_that_store_a (Arrive 110 2 get_a))) }
     ensures an_origin_that_was_not_asked { HeadlineRefuses
         (trace_with_wrong_item events_that_store_a (Arrive 110 2 get_a)
-        (right_outcome_with_changed_about about_with_origin_line_3 events_that_store_a (Arrive 110 2 get_a))) }
+        (right_outcome_with_changed_about report_with_origin_line_3 events_that_store_a (Arrive 110 2 get_a))) }
     ensures no_origin_that_failed { HeadlineRefuses
         (trace_with_wrong_item (Arrive 100 1 get_a ∷ []) (Fail 101 1 kinds.Refused)
-        (right_outcome_with_changed_about about_without_origin_line (Arrive 100 1 get_a
+        (right_outcome_with_changed_about report_without_origin_line (Arrive 100 1 get_a
         ∷ []) (Fail 101 1 kinds.Refused))) }
 {}
 
@@ -303,7 +308,7 @@ pub fn the_headline_refuses_wrong_storing()
 pub fn the_headline_refuses_wrong_waits()
     ensures forward_beside_its_leader { HeadlineRefuses
         (trace_with_wrong_item (Arrive 100 1 get_a ∷ []) (Arrive 100 2 get_a)
-        (Forward (route_over 3) (forward_text three_line_table (route_over 3) get_a None))) }
+        (Forward (route_over_line 3) (forward_text three_line_table (route_over_line 3) get_a None))) }
     ensures for_another_key { HeadlineRefuses (trace_with_wrong_item (Arrive 100 2 get_b ∷ Arrive 100 1 get_a ∷ [])
         (Arrive 100 3 get_b) (Waits 1)) }
     ensures for_one_that_waits { HeadlineRefuses (trace_with_wrong_item events_where_one_waits (Arrive 100 3 get_a)
@@ -317,5 +322,5 @@ pub fn the_headline_refuses_wrong_waits()
     ensures a_second_time { HeadlineRefuses (trace_with_wrong_item events_before_a_wake (Wake 102 2) (Waits 1)) }
     ensures behind_its_wake { HeadlineRefuses (trace_with_wrong_item (Wake 102 2 ∷ events_before_a_wake)
         (Arrive 103 3 get_a)
-        (Forward (route_over 3) (forward_text three_line_table (route_over 3) get_a None))) }
+        (Forward (route_over_line 3) (forward_text three_line_table (route_over_line 3) get_a None))) }
 {}

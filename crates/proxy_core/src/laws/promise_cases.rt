@@ -13,15 +13,15 @@ ghost use Rattle.proxy_core.specs.Promises.{NothingInvalidatedIsSent, TwiceForwa
 ghost use Rattle.proxy_core.specs.Promises.{NothingInvalidatedSinceTheStartIsSent, invalidates_response};
 ghost use Rattle.proxy_core.specs.Promises.{item_overtakes_key};
 ghost use Rattle.proxy_core.specs.Starts.{empty_store};
-ghost use Rattle.proxy_core.specs.Headline.{RequestGoesForwardWhereAllowed};
-ghost use Rattle.proxy_core.specs.Cases.{cache_tag, key_of_path, response_with, stored_with};
+ghost use Rattle.proxy_core.specs.Headline.{RequestGoesForwardOnlyWhereAllowed};
+ghost use Rattle.proxy_core.specs.Cases.{cache_tag, key_of_path, response_with, stored_of_fields};
 ghost use Rattle.proxy_core.specs.WrongTraces.{three_line_table, response_fresh_for_a_minute, get_a, get_admin};
 ghost use Rattle.proxy_core.specs.WrongTraces.{events_that_store_a};
 ghost use Rattle.proxy_core.specs.WrongTraces.{item_with_outcome, proxys_condition_with_etag_v, post_a};
 ghost use Rattle.proxy_core.specs.WrongTraces.{reply_that_stores, reply_that_sends_stored, trace_of_good_events};
-ghost use Rattle.proxy_core.specs.WrongTraces.{trace_that_sends_invalidated_a, trace_that_sends_a_after_delete};
+ghost use Rattle.proxy_core.specs.WrongTraces.{trace_that_sends_invalidated_a, trace_that_sends_stored_a_after_delete};
 ghost use Rattle.proxy_core.specs.WrongTraces.{response_304};
-ghost use Rattle.proxy_core.specs.WrongTraces.{trace_that_sends_invalidated_at_start};
+ghost use Rattle.proxy_core.specs.WrongTraces.{trace_that_sends_invalidated_held_at_start};
 ghost use Rattle.proxy_core.specs.WrongTraces.{trace_that_sends_start_after_purge_of_tag};
 ghost use Rattle.proxy_core.specs.WrongTraces.{trace_that_sends_a_after_purge_of_tag};
 ghost use Rattle.proxy_core.specs.WrongTraces.{trace_that_stores_a_after_purge_of_tag};
@@ -29,37 +29,40 @@ ghost use Rattle.proxy_core.specs.WrongTraces.{trace_that_stores_a_with_two_tags
 ghost use Rattle.proxy_core.specs.WrongTraces.{purge_item_that_expires};
 ghost use Rattle.proxy_core.specs.WrongTraces.{trace_that_stores_overtaken_a, trace_with_three_forwards};
 ghost use Rattle.proxy_core.specs.WrongTraces.{trace_with_two_replies, GoingForwardIsWrong};
-ghost use Rattle.hx_allow.specs.Matching.{route_over};
+ghost use Rattle.hx_allow.specs.Matching.{route_over_line};
 
 /// What goes forward is the request's text, with its conditions, to its line: no other text, no
 /// other line, no conditions that it hasn't, none at all where it has, and nothing that a failure
 /// sends.
 pub fn worked_requests_that_go_forward()
     ensures another_target { GoingForwardIsWrong [] (Arrive 100 1 get_a)
-        (Forward (route_over 3) (forward_text three_line_table (route_over 3) get_admin None)) }
+        (Forward (route_over_line 3) (forward_text three_line_table (route_over_line 3) get_admin None)) }
     ensures another_line { GoingForwardIsWrong [] (Arrive 100 1 get_a)
-        (Forward (route_over 2) (forward_text three_line_table (route_over 2) get_a None)) }
+        (Forward (route_over_line 2) (forward_text three_line_table (route_over_line 2) get_a None)) }
     ensures denied { GoingForwardIsWrong [] (Arrive 100 1 get_admin)
-        (Forward (route_over 1) (forward_text three_line_table (route_over 1) get_admin None)) }
+        (Forward (route_over_line 1) (forward_text three_line_table (route_over_line 1) get_admin None)) }
     ensures conditions_of_nothing { GoingForwardIsWrong [] (Arrive 100 1 get_a)
-        (Forward (route_over 3) (forward_text three_line_table (route_over 3) get_a proxys_condition_with_etag_v)) }
+        (Forward (route_over_line 3)
+        (forward_text three_line_table (route_over_line 3) get_a proxys_condition_with_etag_v)) }
     ensures without_conditions { GoingForwardIsWrong (trace_of_good_events events_that_store_a) (Arrive 200 2 get_a)
-        (Forward (route_over 3) (forward_text three_line_table (route_over 3) get_a None)) }
+        (Forward (route_over_line 3) (forward_text three_line_table (route_over_line 3) get_a None)) }
     ensures by_a_failure { GoingForwardIsWrong
         (item_with_outcome (Arrive 100 1 get_a)
-        (Forward (route_over 3) (forward_text three_line_table (route_over 3) get_a None)) ∷ [])
-        (Fail 101 1 kinds.Refused) (Forward (route_over 3) (forward_text three_line_table (route_over 3) get_a None)) }
+        (Forward (route_over_line 3) (forward_text three_line_table (route_over_line 3) get_a None)) ∷ [])
+        (Fail 101 1 kinds.Refused)
+        (Forward (route_over_line 3) (forward_text three_line_table (route_over_line 3) get_a None)) }
     ensures conditions_a_second_time { GoingForwardIsWrong
         (trace_of_good_events (Arrive 200 2 get_a ∷ events_that_store_a)) (Answer 201 2 (response_with 304 []))
-        (Forward (route_over 3) (forward_text three_line_table (route_over 3) get_a proxys_condition_with_etag_v)) }
+        (Forward (route_over_line 3)
+        (forward_text three_line_table (route_over_line 3) get_a proxys_condition_with_etag_v)) }
     ensures of_nobody { GoingForwardIsWrong [] (Answer 101 1 response_fresh_for_a_minute)
-        (Forward (route_over 3) (forward_text three_line_table (route_over 3) get_a None)) }
+        (Forward (route_over_line 3) (forward_text three_line_table (route_over_line 3) get_a None)) }
 {}
 
 /// A denied request neither goes forward nor waits nor is left, and its reply stores, sends and takes away nothing.
 pub fn a_denied_request_leaves_no_trace()
     ensures forwarded { DeniedRequestsLeaveNoTrace three_line_table (item_with_outcome (Arrive 100 1 get_admin)
-        (Forward (route_over 1) []) ∷ [])
+        (Forward (route_over_line 1) []) ∷ [])
         → ⊥ }
     ensures waits { DeniedRequestsLeaveNoTrace three_line_table (item_with_outcome (Arrive 100 1 get_admin) (Waits 1)
         ∷ []) → ⊥ }
@@ -72,8 +75,8 @@ pub fn a_denied_request_leaves_no_trace()
     ensures removed { DeniedRequestsLeaveNoTrace three_line_table
         (item_with_outcome (Arrive 100 1 get_admin) (reply_that_stores [] None (1 ∷ [])) ∷ []) → ⊥ }
     ensures an_earlier_one { DeniedRequestsLeaveNoTrace three_line_table (item_with_outcome (Arrive 101 2 get_a)
-        (Forward (route_over 3) [])
-        ∷ item_with_outcome (Arrive 100 1 get_admin) (Forward (route_over 1) []) ∷ []) → ⊥ }
+        (Forward (route_over_line 3) [])
+        ∷ item_with_outcome (Arrive 100 1 get_admin) (Forward (route_over_line 1) []) ∷ []) → ⊥ }
 {}
 
 /// An exchange goes forward twice at most, and has one reply at most, until a request of its id arrives anew.
@@ -89,17 +92,17 @@ pub fn sending_what_is_invalidated_is_refused()
         → ⊥ }
     ensures on_its_way { NothingInvalidatedIsSent three_line_table (empty_store 2) trace_that_stores_overtaken_a → ⊥ }
     ensures behind_a_304 { NothingInvalidatedIsSent three_line_table (empty_store 2)
-        (trace_that_sends_a_after_delete (response_304 [])) → ⊥ }
+        (trace_that_sends_stored_a_after_delete (response_304 [])) → ⊥ }
     ensures behind_a_redirect { NothingInvalidatedIsSent three_line_table (empty_store 2)
-        (trace_that_sends_a_after_delete (response_with 303 [])) → ⊥ }
+        (trace_that_sends_stored_a_after_delete (response_with 303 [])) → ⊥ }
     ensures by_its_tag { NothingInvalidatedIsSent three_line_table (empty_store 2)
         (trace_that_sends_a_after_purge_of_tag (codes "news")) → ⊥ }
     ensures on_its_way_by_any_tag { NothingInvalidatedIsSent three_line_table (empty_store 2)
         (trace_that_stores_a_after_purge_of_tag (codes "sport")) → ⊥ }
     ensures since_the_start { NothingInvalidatedSinceTheStartIsSent three_line_table
-        (record { limit = 2; entries = stored_with 1 [] ∷ [] }) trace_that_sends_invalidated_at_start → ⊥ }
+        (record { limit = 2; entries = stored_of_fields 1 [] ∷ [] }) trace_that_sends_invalidated_held_at_start → ⊥ }
     ensures since_the_start_by_its_tag { NothingInvalidatedSinceTheStartIsSent three_line_table
-        (record { limit = 2; entries = stored_with 1 (cache_tag (codes "sport, news") ∷ []) ∷ [] })
+        (record { limit = 2; entries = stored_of_fields 1 (cache_tag (codes "sport, news") ∷ []) ∷ [] })
         (trace_that_sends_start_after_purge_of_tag (codes "news")) → ⊥ }
 {}
 
@@ -117,7 +120,7 @@ pub fn worked_invalidations_by_tag()
 
 /// A purge that expires invalidates nothing that is held: it is left to be sent as a stale one. What is on its way it
 /// overtakes as any purge.
-pub fn worked_invalidations_by_expiring()
+pub fn worked_expiring_purge_only_overtakes()
     ensures held { invalidates_response three_line_table (empty_store 2) 1
         (key_of_path (codes "/a")) purge_item_that_expires
         trace_that_stores_a_with_two_tags ≡ false }

@@ -7,25 +7,25 @@ ghost use Rattle.hx_fields.specs.FieldLines.{has_field, values_of};
 ghost use Rattle.hx_hop.specs.declared.request_view.Asked.{Asked};
 ghost use Rattle.hx_allow.specs.Examples.{seven_tags_and_a_comma};
 ghost use Rattle.hx_allow.specs.Tags.{response_names_tag, purge_tag_or_none};
-ghost use Rattle.hx_store.specs.Found.{SerialsAreAscending};
+ghost use Rattle.hx_store.specs.Found.{SerialsNeverDescend};
 ghost use Rattle.hx_store.specs.Serials.{serial_is_in, SerialsAreDistinct};
 ghost use Rattle.hx_store.specs.Shelf.{serials, serials_of_key, without_serials};
 ghost use Rattle.hx_store.specs.Stored.{Stored};
 ghost use Rattle.proxy_core.specs.Cases.{stored_from_first_answer, get_a_with, key_of_path, post_exchange};
 ghost use Rattle.proxy_core.specs.Cases.{stored_with_tags};
-ghost use Rattle.proxy_core.specs.Cases.{table, entries_held_with_tags};
+ghost use Rattle.proxy_core.specs.Cases.{table, four_entries_with_and_without_tags};
 ghost use Rattle.proxy_core.specs.Outcomes.{outcome_of_purge};
 ghost use Rattle.proxy_core.specs.Scopes.{is_purged_by_request, serials_purged_by_request};
-ghost use Rattle.proxy_core.specs.State.{open_exchanges_after};
+ghost use Rattle.proxy_core.specs.State.{open_exchanges_after_event};
 ghost use Rattle.proxy_core.specs.declared.event.Event.TheVariants.{Arrive};
 
 /// A request that purges takes the serial of each held response within its scope that names its tag, where it has one,
 /// and no other, ascending; without those exactly the others stay. Without a scope and a tag it takes what is held for
 /// its target; with a tag alone all that names it.
-pub fn a_purge_takes_what_is_within_its_scope()
+pub fn a_purge_selects_what_is_within_its_scope()
     ensures those { (asked : Asked) (s : ℕ) (es : List Stored) → serial_is_in s (serials_purged_by_request asked es)
         ≡ list_any (λ e. is_purged_by_request asked e && (e.serial == s)) es }
-    ensures ascending { (asked : Asked) (es : List Stored) → SerialsAreAscending (serials_purged_by_request asked es) }
+    ensures ascending { (asked : Asked) (es : List Stored) → SerialsNeverDescend (serials_purged_by_request asked es) }
     ensures others { (asked : Asked) (es : List Stored) → SerialsAreDistinct (serials es)
         → without_serials (serials_purged_by_request asked es) es
         ≡ filter (λ e. not (is_purged_by_request asked e)) es }
@@ -58,7 +58,7 @@ pub fn worked_purge_scopes()
         ∷ record stored_from_first_answer { serial = 3; key = record (key_of_path (codes "/c")) { port = 81 } }
         ∷ stored_from_first_answer ∷ [])
         ≡ 1 ∷ 3 ∷ 4 ∷ [] }
-    ensures overtaken { open_exchanges_after table [] (record (post_exchange 1 (codes "/a/b")) { overtaken = false }
+    ensures overtaken { open_exchanges_after_event table [] (record (post_exchange 1 (codes "/a/b")) { overtaken = false }
         ∷ post_exchange 2 (codes "/ab") ∷ [])
         (Arrive 130 3 (get_a_with (line (codes "Purge-Scope") (codes "prefix") ∷ [])))
         (outcome_of_purge [] 130 (get_a_with (line (codes "Purge-Scope") (codes "prefix") ∷ [])))
@@ -69,15 +69,15 @@ pub fn worked_purge_scopes()
 /// more than 64 tags goes by each tag, one with 64 by those alone.
 pub fn worked_purges_with_a_tag()
     ensures tag { serials_purged_by_request (get_a_with (line (codes "Purge-Tag") (codes "news")
-        ∷ [])) entries_held_with_tags ≡ 1 ∷ 4 ∷ [] }
+        ∷ [])) four_entries_with_and_without_tags ≡ 1 ∷ 4 ∷ [] }
     ensures another_tag { serials_purged_by_request (get_a_with (line (codes "Purge-Tag") (codes "New")
-        ∷ [])) entries_held_with_tags ≡ [] }
+        ∷ [])) four_entries_with_and_without_tags ≡ [] }
     ensures of_a_host { serials_purged_by_request (get_a_with (line (codes "Purge-Scope") (codes "host")
-        ∷ line (codes "purge-tag") (codes "news") ∷ [])) entries_held_with_tags ≡ 1 ∷ [] }
+        ∷ line (codes "purge-tag") (codes "news") ∷ [])) four_entries_with_and_without_tags ≡ 1 ∷ [] }
     ensures of_all { serials_purged_by_request (get_a_with (line (codes "Purge-Tag") (codes "news")
-        ∷ line (codes "Purge-Scope") (codes "all") ∷ [])) entries_held_with_tags ≡ 1 ∷ 4 ∷ [] }
+        ∷ line (codes "Purge-Scope") (codes "all") ∷ [])) four_entries_with_and_without_tags ≡ 1 ∷ 4 ∷ [] }
     ensures of_a_prefix { serials_purged_by_request (get_a_with (line (codes "Purge-Scope") (codes "prefix")
-        ∷ line (codes "Purge-Tag") (codes "sport") ∷ [])) entries_held_with_tags ≡ 3 ∷ [] }
+        ∷ line (codes "Purge-Tag") (codes "sport") ∷ [])) four_entries_with_and_without_tags ≡ 3 ∷ [] }
     ensures more_than_64 { serials_purged_by_request (get_a_with (line (codes "Purge-Tag") (codes "news") ∷ []))
         (stored_with_tags 2 (seven_tags_and_a_comma ++ seven_tags_and_a_comma ++ seven_tags_and_a_comma
         ++ seven_tags_and_a_comma ++ seven_tags_and_a_comma ++ seven_tags_and_a_comma ++ seven_tags_and_a_comma
@@ -85,12 +85,13 @@ pub fn worked_purges_with_a_tag()
         ∷ stored_with_tags 1 (seven_tags_and_a_comma ++ seven_tags_and_a_comma ++ seven_tags_and_a_comma
         ++ seven_tags_and_a_comma ++ seven_tags_and_a_comma ++ seven_tags_and_a_comma ++ seven_tags_and_a_comma
         ++ seven_tags_and_a_comma ++ seven_tags_and_a_comma ++ codes "b,c") ∷ []) ≡ 1 ∷ [] }
-    ensures overtaken { open_exchanges_after table [] (post_exchange 1 (codes "/a/b") ∷ post_exchange 2 (codes "/ab") ∷ [])
+    ensures overtaken { open_exchanges_after_event table []
+        (post_exchange 1 (codes "/a/b") ∷ post_exchange 2 (codes "/ab") ∷ [])
         (Arrive 130 3 (get_a_with (line (codes "Purge-Tag") (codes "news") ∷ [])))
         (outcome_of_purge [] 130 (get_a_with (line (codes "Purge-Tag") (codes "news") ∷ [])))
         ≡ record (post_exchange 1 (codes "/a/b")) { overtaken = true }
         ∷ record (post_exchange 2 (codes "/ab")) { overtaken = true } ∷ [] }
-    ensures overtaken_below { open_exchanges_after table []
+    ensures overtaken_below { open_exchanges_after_event table []
         (post_exchange 1 (codes "/a/b") ∷ post_exchange 2 (codes "/ab") ∷ [])
         (Arrive 130 3 (get_a_with (line (codes "Purge-Scope") (codes "prefix")
         ∷ line (codes "Purge-Tag") (codes "news") ∷ [])))

@@ -6,7 +6,7 @@ ghost use Rattle.std.specs.Prelude.{negsuc};
 ghost use Rattle.hx_policy.specs.Policies.{plain};
 ghost use Rattle.hx_fields.specs.Examples.{line};
 ghost use Rattle.hx_allow.specs.declared.verdicts.Verdict.TheVariants as verdict;
-ghost use Rattle.hx_allow.specs.Matching.{route_over};
+ghost use Rattle.hx_allow.specs.Matching.{route_over_line};
 ghost use Rattle.hx_store.specs.Shelf.{serials};
 ghost use Rattle.hx_reuse.specs.declared.decision.Decision.TheVariants as decision;
 ghost use Rattle.hx_reuse.specs.declared.rule.ReuseRule.TheVariants.{UriMiss, VaryMiss, ResponseNoCache};
@@ -17,8 +17,8 @@ ghost use Rattle.hx_reuse.specs.declared.rule.ErrorRule.TheVariants as on_error;
 ghost use Rattle.hx_status.specs.declared.status.Detail.TheVariants.{StaleIfError, ReuseAfterError};
 ghost use Rattle.hx_status.specs.declared.cause.FailKind.TheVariants.{BadAnswer, Refused};
 ghost use Rattle.hx_status.specs.declared.cause.Cause.TheVariants.{Denied, NoLine, Looped, OnlyIfCached, Origin};
-ghost use Rattle.hx_status.specs.Abouts.{about_purge};
-ghost use Rattle.proxy_core.specs.declared.steps.fallback.Fallback.TheVariants.{Sends, Refuses};
+ghost use Rattle.hx_status.specs.Abouts.{purge_status_and_reason};
+ghost use Rattle.proxy_core.specs.declared.steps.fallback.FallbackDecision.TheVariants.{Sends, Refuses};
 ghost use Rattle.proxy_core.specs.declared.event.Event.TheVariants.{Arrive, Answer, Fail, Wake, Abandon, Overdue};
 ghost use Rattle.proxy_core.specs.declared.outcome.Outcome.TheVariants.{Reply, Forward, Waits, Ended, WaitsNoMore};
 ghost use Rattle.proxy_core.specs.declared.open.stage.Stage.TheVariants.{Waiting, Released};
@@ -28,35 +28,38 @@ ghost use Rattle.hx_storable.specs.declared.rule.StoreRule.TheVariants.{NothingT
 ghost use Rattle.proxy_core.specs.Replies.{passed_answer_text, refusal_reply_text, stored_reply_text, ttl_of_stored};
 ghost use Rattle.proxy_core.specs.Storing.{answer_invalidates, is_storable, is_304_without_condition};
 ghost use Rattle.proxy_core.specs.Storing.{stored_response_made, serials_replaced_by_storing, storing_rule_to_explain};
-ghost use Rattle.proxy_core.specs.Validating.{condition_about_stored, stored_response_is_answered};
+ghost use Rattle.proxy_core.specs.Validating.{condition_to_revalidate_stored, stored_response_is_answered_by_304};
 ghost use Rattle.proxy_core.specs.Validating.{freshened_may_be_kept, is_304_to_own_conditions, freshened_by_304};
 ghost use Rattle.hx_validate.specs.Cases.{many_lines};
 ghost use Rattle.proxy_core.specs.Awaiting.{leader_of_request};
 ghost use Rattle.proxy_core.specs.Outcomes.{outcome_of_answer, outcome_of_arrival, hit_status_info};
 ghost use Rattle.proxy_core.specs.Outcomes.{fallback_for_failed_answer};
-ghost use Rattle.proxy_core.specs.Outcomes.{fault_at_exchange, forwarded_status_info};
-ghost use Rattle.proxy_core.specs.Outcomes.{is_error_status, outcome_of_passing_on_or_stale, outcome_of_refusal};
-ghost use Rattle.proxy_core.specs.Outcomes.{outcome_after_origin, outcome_of_purge};
+ghost use Rattle.proxy_core.specs.Outcomes.{fault_at_exchange, sent_after_forward_status_info};
+ghost use Rattle.proxy_core.specs.Outcomes.{is_stale_if_error_status, outcome_of_passing_on_or_stale};
+ghost use Rattle.proxy_core.specs.Outcomes.{outcome_of_refusal};
+ghost use Rattle.proxy_core.specs.Outcomes.{reply_after_origin_was_asked, outcome_of_purge};
 ghost use Rattle.proxy_core.specs.Outcomes.{serials_removed_by_answer, outcome_of_sending_freshened, outcome_of_wake};
-ghost use Rattle.proxy_core.specs.State.{next_serial_after, serial_after_this, open_exchanges_after};
-ghost use Rattle.proxy_core.specs.State.{serials_removed_by_outcome, serial_stored_by_outcome, entries_after_storing};
-ghost use Rattle.proxy_core.specs.State.{evicted_if_stored_or_used};
+ghost use Rattle.proxy_core.specs.State.{next_serial_after_storing, serial_after_this, open_exchanges_after_event};
+ghost use Rattle.proxy_core.specs.State.{serials_removed_by_outcome, serial_stored_by_outcome};
+ghost use Rattle.proxy_core.specs.State.{entries_after_removal_and_storing};
+ghost use Rattle.proxy_core.specs.State.{cut_to_bounds_if_stored_or_used};
 ghost use Rattle.proxy_core.specs.State.{serial_used_by_outcome};
 ghost use Rattle.proxy_core.specs.State.{entries_after_use};
 ghost use Rattle.proxy_core.specs.Cases.{response_with, exchange_that_revalidates_e, request_for_path};
 ghost use Rattle.proxy_core.specs.Cases.{get_a_with_authorization};
-ghost use Rattle.proxy_core.specs.Cases.{bytes_of_reply_outcome, connection_field, cache_control};
+ghost use Rattle.proxy_core.specs.Cases.{bytes_of_outcome, connection_field, cache_control};
 ghost use Rattle.proxy_core.specs.Cases.{keeps_conditions_policy, get_a_with_cookie, lifetime_at_most_15_policy};
 ghost use Rattle.proxy_core.specs.Cases.{lifetime_60_but_not_to_cookies_policy, get_a_by_scheme};
-ghost use Rattle.proxy_core.specs.Cases.{over_line_varying_by_scheme, table_varying_by_scheme};
-ghost use Rattle.proxy_core.specs.Cases.{set_cookie_field, date_at_101, explains_storing_policy, first_answer_fields};
+ghost use Rattle.proxy_core.specs.Cases.{exchange_varying_by_scheme, table_varying_by_scheme};
+ghost use Rattle.proxy_core.specs.Cases.{set_cookie_field, date_at_101, policy_explaining_storing, first_answer_fields};
 ghost use Rattle.proxy_core.specs.Cases.{stored_from_first_answer, get_a_with, lifetime_60_policy, head_request_for_a};
-ghost use Rattle.proxy_core.specs.Cases.{key_of_path, wait_for_stale_policy, lines_of_304, stores_no_cookies_policy};
+ghost use Rattle.proxy_core.specs.Cases.{key_of_path, wait_for_stale_policy, lines_of_origins_304};
+ghost use Rattle.proxy_core.specs.Cases.{stores_no_cookies_policy};
 ghost use Rattle.proxy_core.specs.Cases.{stores_no_errors_policy, exchange_forwarded_over_line_2, post_exchange};
-ghost use Rattle.proxy_core.specs.Cases.{exchange_forwarded_on_stale, accept_language, stored_without_lifetime};
-ghost use Rattle.proxy_core.specs.Cases.{stored_with};
+ghost use Rattle.proxy_core.specs.Cases.{exchange_forwarded_on_stale, accept_language_line, stored_without_lifetime};
+ghost use Rattle.proxy_core.specs.Cases.{stored_of_fields};
 ghost use Rattle.proxy_core.specs.Cases.{table, table_with_policy, three_held_responses, etag_field};
-ghost use Rattle.proxy_core.specs.Cases.{vary_field, waiting, forwarded_on_miss, exchange_forwarded_on_stale_by};
+ghost use Rattle.proxy_core.specs.Cases.{vary_field, waiting, forwarded_on_miss, exchange_forwarded_on_stale_for};
 ghost use Rattle.proxy_core.specs.Cases.{stale_stored_with_directives};
 ghost use Rattle.proxy_core.specs.Cases.{held_with_lifetime_10, get_a_if_changed, get_a_with_no_cache};
 ghost use Rattle.proxy_core.specs.Cases.{get_a_with_no_store};
@@ -74,10 +77,10 @@ pub fn worked_stored_replies()
     ensures has_it { stored_reply_text (codes "edge") stored_from_first_answer 130 (hit_status_info (plain true))
         (get_a_with (line (codes "If-None-Match") (codes "W/\"v1\"") ∷ [])) ≡ codes "HTTP/1.1 304 \r\nDate: Thu, 01 Jan 1970 00:01:41 GMT\r\nCache-Control: max-age=60\r\nETag: \"v1\"\r\nAge: 30\r\nCache-Status: edge;hit;ttl=30\r\n\r\n" }
     ensures validated { stored_reply_text (codes "edge") stored_from_first_answer 130
-        (forwarded_status_info (plain true) (exchange_that_revalidates_e (get_a_with [])) (Some 304) None)
+        (sent_after_forward_status_info (plain true) (exchange_that_revalidates_e (get_a_with [])) (Some 304) None)
         (get_a_with [])
         ≡ codes "HTTP/1.1 200 \r\nDate: Thu, 01 Jan 1970 00:01:41 GMT\r\nCache-Control: max-age=60\r\nETag: \"v1\"\r\nAge: 30\r\nCache-Status: edge;fwd=stale;fwd-status=304;ttl=30;detail=no-lifetime\r\nContent-Length: 2\r\n\r\nhi" }
-    ensures no_content { stored_reply_text (codes "edge") (record (stored_with 1
+    ensures no_content { stored_reply_text (codes "edge") (record (stored_of_fields 1
         (cache_control (codes "max-age=60") ∷ [])) { status = 204; content = [] }) 102 (hit_status_info (plain true))
         (get_a_with [])
         ≡ codes "HTTP/1.1 204 \r\nCache-Control: max-age=60\r\nAge: 2\r\nCache-Status: edge;hit;ttl=58\r\n\r\n" }
@@ -125,15 +128,15 @@ pub fn worked_passed_answers()
 {}
 
 /// The statuses in whose place a stored response may be sent (RFC 5861, section 4), and others.
-pub fn worked_error_statuses()
-    ensures status_500 { is_error_status 500 ≡ true }
-    ensures status_501 { is_error_status 501 ≡ false }
-    ensures status_502 { is_error_status 502 ≡ true }
-    ensures status_503 { is_error_status 503 ≡ true }
-    ensures status_504 { is_error_status 504 ≡ true }
-    ensures status_505 { is_error_status 505 ≡ false }
-    ensures status_200 { is_error_status 200 ≡ false }
-    ensures status_404 { is_error_status 404 ≡ false }
+pub fn worked_stale_if_error_statuses()
+    ensures status_500 { is_stale_if_error_status 500 ≡ true }
+    ensures status_501 { is_stale_if_error_status 501 ≡ false }
+    ensures status_502 { is_stale_if_error_status 502 ≡ true }
+    ensures status_503 { is_stale_if_error_status 503 ≡ true }
+    ensures status_504 { is_stale_if_error_status 504 ≡ true }
+    ensures status_505 { is_stale_if_error_status 505 ≡ false }
+    ensures status_200 { is_stale_if_error_status 200 ≡ false }
+    ensures status_404 { is_stale_if_error_status 404 ≡ false }
 {}
 
 /// A 304 that the client asked for and one that nobody did (RFC 9110, section 15.4.5); a 304
@@ -188,7 +191,7 @@ pub fn worked_invalidating_answers()
 
 /// An answer to a GET of /a at 101, with something against it in each of the cases but `whole`,
 /// `tag_alone` and `lasts`.
-#[tactic(auto, unfolding(httpdate::proofs::OnLiterals::httpdate_on_literals, hx_storable::specs::Rules::storage_rule_of, hx_allow::specs::Matching::policy_of))]
+#[tactic(auto, unfolding(httpdate::proofs::OnLiterals::httpdate_on_literals, hx_storable::specs::Rules::rule_against_storing, hx_allow::specs::Matching::policy_of))]
 pub fn worked_storable_answers()
     ensures whole { is_storable table (forwarded_on_miss (get_a_with [])) (response_with 200 first_answer_fields) 101
         (Some 4) ≡ true }
@@ -217,9 +220,9 @@ pub fn worked_storable_answers()
 /// What is stored of a 404 with Age and with a field of its connection, for a request in German
 /// (RFC 9111, sections 3, 3.1, 4.1 and 4.2.3); and of the stored responses of the path the one in
 /// German whose place it takes.
-#[tactic(auto, unfolding(httpdate::proofs::OnLiterals::httpdate_on_literals, hx_storable::specs::Rules::storage_rule_of, hx_allow::specs::Matching::policy_of))]
+#[tactic(auto, unfolding(httpdate::proofs::OnLiterals::httpdate_on_literals, hx_storable::specs::Rules::rule_against_storing, hx_allow::specs::Matching::policy_of))]
 pub fn worked_stored_responses()
-    ensures whole { stored_response_made 4 (forwarded_on_miss (get_a_with (accept_language (codes "de") ∷ [])))
+    ensures whole { stored_response_made 4 (forwarded_on_miss (get_a_with (accept_language_line (codes "de") ∷ [])))
         (response_with 404 (connection_field (codes "X-A") ∷ line (codes "X-A") (codes "1") ∷ vary_field (codes "Accept-Language")
         ∷ line (codes "Age") (codes "5") ∷ first_answer_fields)) 102
         ≡ record {
@@ -232,22 +235,22 @@ pub fn worked_stored_responses()
           times = record { date = 101; age_value = 5; request_time = 100; response_time = 102; expired = None };
         } }
     ensures varied { (stored_response_made 4
-        (over_line_varying_by_scheme (forwarded_on_miss (get_a_by_scheme (codes "https"))))
+        (exchange_varying_by_scheme (forwarded_on_miss (get_a_by_scheme (codes "https"))))
         (response_with 200 (vary_field (codes "Accept-Language") ∷ first_answer_fields)) 102).nominated
         ≡ record { name = codes "Accept-Language"; value = None }
         ∷ record { name = codes "X-Forwarded-Proto"; value = Some (codes "https") } ∷ [] }
     ensures told_as_it_came { (stored_response_made 4
-        (over_line_varying_by_scheme (forwarded_on_miss (get_a_by_scheme (codes "https"))))
+        (exchange_varying_by_scheme (forwarded_on_miss (get_a_by_scheme (codes "https"))))
         (response_with 200 first_answer_fields) 102).fields ≡ first_answer_fields }
     ensures other_scheme { serials_replaced_by_storing (stored_response_made 4
-        (over_line_varying_by_scheme (forwarded_on_miss (get_a_by_scheme (codes "https"))))
+        (exchange_varying_by_scheme (forwarded_on_miss (get_a_by_scheme (codes "https"))))
         (response_with 200 first_answer_fields) 102
         ∷ []) (get_a_by_scheme (codes "http")) ≡ [] }
     ensures same_scheme { serials_replaced_by_storing (stored_response_made 4
-        (over_line_varying_by_scheme (forwarded_on_miss (get_a_by_scheme (codes "https"))))
+        (exchange_varying_by_scheme (forwarded_on_miss (get_a_by_scheme (codes "https"))))
         (response_with 200 first_answer_fields) 102
         ∷ []) (get_a_by_scheme (codes "https")) ≡ 4 ∷ [] }
-    ensures replaced { serials_replaced_by_storing three_held_responses (get_a_with (accept_language (codes "de")
+    ensures replaced { serials_replaced_by_storing three_held_responses (get_a_with (accept_language_line (codes "de")
         ∷ [])) ≡ 3 ∷ [] }
     ensures stored { serial_stored_by_outcome (outcome_of_passing_on_or_stale table [] 101
         (forwarded_on_miss (get_a_with [])) (response_with 200 first_answer_fields) (Some 4) false
@@ -265,19 +268,20 @@ pub fn worked_stored_responses()
 
 /// With what condition a stored response is revalidated (RFC 9111, section 4.3.1), when that response is kept after a
 /// 304 (section 4.3.4), and from when on it is as old as the 304.
-#[tactic(auto, unfolding(httpdate::proofs::OnLiterals::httpdate_on_literals, hx_storable::specs::Rules::storage_rule_of, hx_allow::specs::Matching::policy_of, hx_validate::specs::Answering::freshened_of))]
+#[tactic(auto, unfolding(httpdate::proofs::OnLiterals::httpdate_on_literals, hx_storable::specs::Rules::rule_against_storing, hx_allow::specs::Matching::policy_of, hx_validate::specs::Answering::freshened_of))]
 pub fn worked_stored_responses_after_a_304()
-    ensures asked_about { condition_about_stored (stored_with 3 (etag_field (codes "\"e\"") ∷ []))
+    ensures asked_about { condition_to_revalidate_stored (stored_of_fields 3 (etag_field (codes "\"e\"") ∷ []))
         ≡ Some (record { serial = 3; sent = record { etag = Some (codes "\"e\""); modified = None } }) }
-    ensures not_asked_about { condition_about_stored (stored_with 3 (cache_control (codes "max-age=60") ∷ [])) ≡ None }
+    ensures not_asked_about { condition_to_revalidate_stored
+        (stored_of_fields 3 (cache_control (codes "max-age=60") ∷ [])) ≡ None }
     ensures times { (freshened_by_304 (exchange_that_revalidates_e (get_a_with [])) (response_with 304 (date_at_101
         ∷ [])) 105
-        (stored_with 1 (etag_field (codes "\"e\"") ∷ []))).times
+        (stored_of_fields 1 (etag_field (codes "\"e\"") ∷ []))).times
         ≡ record { date = 101; age_value = 0; request_time = 100; response_time = 105; expired = None } }
     ensures varied { (freshened_by_304
-        (over_line_varying_by_scheme (exchange_that_revalidates_e (get_a_by_scheme (codes "https"))))
+        (exchange_varying_by_scheme (exchange_that_revalidates_e (get_a_by_scheme (codes "https"))))
         (response_with 304 (date_at_101 ∷ [])) 105
-        (stored_with 1 (etag_field (codes "\"e\"") ∷ []))).nominated
+        (stored_of_fields 1 (etag_field (codes "\"e\"") ∷ []))).nominated
         ≡ record { name = codes "X-Forwarded-Proto"; value = Some (codes "https") } ∷ [] }
     ensures whole { freshened_may_be_kept table (exchange_that_revalidates_e (get_a_with []))
         (response_with 304 []) stored_from_first_answer
@@ -285,11 +289,11 @@ pub fn worked_stored_responses_after_a_304()
     ensures to_head { freshened_may_be_kept table (exchange_that_revalidates_e head_request_for_a)
         (response_with 304 []) stored_from_first_answer ≡ true }
     ensures tag_alone { freshened_may_be_kept table (exchange_that_revalidates_e (get_a_with [])) (response_with 304 [])
-        (stored_with 1 (etag_field (codes "\"e\"") ∷ [])) ≡ true }
+        (stored_of_fields 1 (etag_field (codes "\"e\"") ∷ [])) ≡ true }
     ensures neither { freshened_may_be_kept table (exchange_that_revalidates_e (get_a_with [])) (response_with 304 [])
-        (stored_with 1 []) ≡ false }
+        (stored_of_fields 1 []) ≡ false }
     ensures star { freshened_may_be_kept table (exchange_that_revalidates_e (get_a_with [])) (response_with 304 [])
-        (stored_with 1 (vary_field (codes "*") ∷ first_answer_fields)) ≡ false }
+        (stored_of_fields 1 (vary_field (codes "*") ∷ first_answer_fields)) ≡ false }
     ensures for_one_connection { freshened_may_be_kept table (exchange_that_revalidates_e (get_a_with []))
         (response_with 304 (connection_field (codes "ETag") ∷ []))
         stored_from_first_answer ≡ false }
@@ -299,37 +303,37 @@ pub fn worked_stored_responses_after_a_304()
         (response_with 304 []) stored_from_first_answer
         ≡ false }
     ensures lines_96 { freshened_may_be_kept table (exchange_that_revalidates_e (get_a_with [])) (response_with 304 [])
-        (stored_with 1 (etag_field (codes "\"e\"") ∷ many_lines 95)) ≡ true }
+        (stored_of_fields 1 (etag_field (codes "\"e\"") ∷ many_lines 95)) ≡ true }
     ensures lines_97 { freshened_may_be_kept table (exchange_that_revalidates_e (get_a_with [])) (response_with 304 [])
-        (stored_with 1 (etag_field (codes "\"e\"") ∷ many_lines 96)) ≡ false }
+        (stored_of_fields 1 (etag_field (codes "\"e\"") ∷ many_lines 96)) ≡ false }
     ensures bytes { (value : List ℕ) → freshened_may_be_kept table (exchange_that_revalidates_e (get_a_with []))
         (response_with 304 [])
-        (stored_with 1 (line (codes "X") value ∷ etag_field (codes "\"e\"") ∷ [])) ≡ nat_le (length value + 11) 32507 }
+        (stored_of_fields 1 (line (codes "X") value ∷ etag_field (codes "\"e\"") ∷ [])) ≡ nat_le (length value + 11) 32507 }
     ensures kept { serials_removed_by_outcome
         (outcome_of_sending_freshened table (exchange_that_revalidates_e (get_a_with []))
         (response_with 304 []) 105 stored_from_first_answer) ≡ [] }
     ensures release { serials_removed_by_outcome
         (outcome_of_sending_freshened table (exchange_that_revalidates_e (get_a_with []))
         (response_with 304 []) 105
-        (stored_with 1 (vary_field (codes "*") ∷ first_answer_fields))) ≡ 1 ∷ [] }
+        (stored_of_fields 1 (vary_field (codes "*") ∷ first_answer_fields))) ≡ 1 ∷ [] }
     ensures too_many { serials_removed_by_outcome
         (outcome_of_sending_freshened table (exchange_that_revalidates_e (get_a_with []))
         (response_with 304 []) 105
-        (stored_with 1 (etag_field (codes "\"e\"") ∷ many_lines 96))) ≡ 1 ∷ [] }
+        (stored_of_fields 1 (etag_field (codes "\"e\"") ∷ many_lines 96))) ≡ 1 ∷ [] }
 {}
 
 /// What the words of the line change: an answer that isn't stored says why where its line explains
 /// it (RFC 9211, section 2.8), a stored response without a lifetime has the operator's (RFC 9111,
 /// section 4.2.2), as one with a long lifetime has his most; a page for one visitor isn't stored by the lifetime alone,
 /// nor kept after his 304; and a 304 keeps neither a cookie nor an error whose line stores none.
-#[tactic(auto, unfolding(httpdate::proofs::OnLiterals::httpdate_on_literals, hx_storable::specs::Rules::storage_rule_of, hx_allow::specs::Matching::policy_of))]
+#[tactic(auto, unfolding(httpdate::proofs::OnLiterals::httpdate_on_literals, hx_storable::specs::Rules::rule_against_storing, hx_allow::specs::Matching::policy_of))]
 pub fn worked_line_options_in_storing()
-    ensures explained { storing_rule_to_explain (table_with_policy explains_storing_policy)
+    ensures explained { storing_rule_to_explain (table_with_policy policy_explaining_storing)
         (forwarded_on_miss (get_a_with [])) (response_with 200 []) 101 (Some 4)
         ≡ Some NothingToReuse }
     ensures not_explained { storing_rule_to_explain table (forwarded_on_miss (get_a_with []))
         (response_with 200 []) 101 (Some 4) ≡ None }
-    ensures nothing_to_explain { storing_rule_to_explain (table_with_policy explains_storing_policy)
+    ensures nothing_to_explain { storing_rule_to_explain (table_with_policy policy_explaining_storing)
         (forwarded_on_miss (get_a_with [])) (response_with 200 first_answer_fields) 101 (Some 4)
         ≡ None }
     ensures given { ttl_of_stored lifetime_60_policy stored_without_lifetime 110 ≡ pos 50 }
@@ -338,8 +342,9 @@ pub fn worked_line_options_in_storing()
     ensures none_given_to_errors { ttl_of_stored lifetime_60_policy
         (record stored_without_lifetime { status = 404 }) 110 ≡ negsuc 9 }
     ensures none_given { ttl_of_stored (plain true) stored_without_lifetime 110 ≡ negsuc 9 }
-    ensures stated { ttl_of_stored lifetime_60_policy (stored_with 1 (cache_control (codes "max-age=20") ∷ [])) 110 ≡ pos 10 }
-    ensures at_most { ttl_of_stored lifetime_at_most_15_policy (stored_with 1 (cache_control (codes "max-age=31536000") ∷ [])) 110
+    ensures stated { ttl_of_stored lifetime_60_policy (stored_of_fields 1 (cache_control (codes "max-age=20") ∷ [])) 110
+        ≡ pos 10 }
+    ensures at_most { ttl_of_stored lifetime_at_most_15_policy (stored_of_fields 1 (cache_control (codes "max-age=31536000") ∷ [])) 110
         ≡ pos 5 }
     ensures for_one { is_storable (table_with_policy lifetime_60_but_not_to_cookies_policy)
         (forwarded_on_miss get_a_with_cookie)
@@ -354,17 +359,17 @@ pub fn worked_line_options_in_storing()
         (Some 4) ≡ true }
     ensures freshened_for_one { freshened_may_be_kept (table_with_policy lifetime_60_but_not_to_cookies_policy)
         (exchange_that_revalidates_e get_a_with_cookie) (response_with 304 [])
-        (stored_with 1 (etag_field (codes "\"e\"") ∷ [])) ≡ false }
+        (stored_of_fields 1 (etag_field (codes "\"e\"") ∷ [])) ≡ false }
     ensures freshened_for_all { freshened_may_be_kept (table_with_policy lifetime_60_but_not_to_cookies_policy)
-        (exchange_that_revalidates_e (get_a_with [])) (response_with 304 []) (stored_with 1 (etag_field (codes "\"e\"")
+        (exchange_that_revalidates_e (get_a_with [])) (response_with 304 []) (stored_of_fields 1 (etag_field (codes "\"e\"")
         ∷ [])) ≡ true }
     ensures cookie_kept { freshened_may_be_kept table (exchange_that_revalidates_e (get_a_with []))
         (response_with 304 [])
-        (stored_with 1 (set_cookie_field ∷ first_answer_fields))
+        (stored_of_fields 1 (set_cookie_field ∷ first_answer_fields))
         ≡ true }
     ensures cookie_not_kept { freshened_may_be_kept (table_with_policy stores_no_cookies_policy)
         (exchange_that_revalidates_e (get_a_with [])) (response_with 304 [])
-        (stored_with 1 (set_cookie_field ∷ first_answer_fields)) ≡ false }
+        (stored_of_fields 1 (set_cookie_field ∷ first_answer_fields)) ≡ false }
     ensures without_cookie { freshened_may_be_kept (table_with_policy stores_no_cookies_policy)
         (exchange_that_revalidates_e (get_a_with [])) (response_with 304 []) stored_from_first_answer
         ≡ true }
@@ -380,13 +385,13 @@ pub fn worked_line_options_in_storing()
 
 /// What is held is sent after a failure: what may be reused, what stale-if-error allows (RFC 5861,
 /// section 4), each by its word, or nothing, by the rules against it.
-#[tactic(auto, unfolding(hx_reuse::specs::ErrorRules::error_rule_on))]
+#[tactic(auto, unfolding(hx_reuse::specs::ErrorRules::error_rule_against))]
 pub fn worked_fallbacks_after_failure()
     ensures reusable { fallback_for_failed_answer (plain true) [] (get_a_with []) 130 (decision.Hit 1)
         ≡ Sends 1 ReuseAfterError }
-    ensures allowed { fallback_for_failed_answer (plain true) (stored_with 1 (cache_control (codes "max-age=10, stale-if-error=60") ∷ [])
+    ensures allowed { fallback_for_failed_answer (plain true) (stored_of_fields 1 (cache_control (codes "max-age=10, stale-if-error=60") ∷ [])
         ∷ []) (get_a_with []) 130 (decision.Forward NoMaxStale (Some 1)) ≡ Sends 1 StaleIfError }
-    ensures not_allowed { fallback_for_failed_answer (plain true) (stored_with 1 (cache_control (codes "max-age=10") ∷ [])
+    ensures not_allowed { fallback_for_failed_answer (plain true) (stored_of_fields 1 (cache_control (codes "max-age=10") ∷ [])
         ∷ []) (get_a_with []) 130 (decision.Forward NoMaxStale (Some 1)) ≡ Refuses NoMaxStale
         (Some on_error.NoDirective) }
     ensures nothing_held { fallback_for_failed_answer (plain true) [] (get_a_with []) 130
@@ -489,36 +494,36 @@ pub fn worked_requests_that_do_not_wait()
     ensures a_missing_variant { leader_of_request wait_for_stale_policy held_with_lifetime_10
         (record (forwarded_on_miss (get_a_with [])) { rule = VaryMiss } ∷ []) (get_a_with []) VaryMiss ≡ None }
     ensures behind_a_head { leader_of_request wait_for_stale_policy held_with_lifetime_10
-        (exchange_forwarded_on_stale_by head_request_for_a ∷ []) (get_a_with []) NoMaxStale ≡ None }
+        (exchange_forwarded_on_stale_for head_request_for_a ∷ []) (get_a_with []) NoMaxStale ≡ None }
     ensures behind_one_that_waits { leader_of_request wait_for_stale_policy held_with_lifetime_10
         (record exchange_forwarded_on_stale { stage = Waiting 7 } ∷ []) (get_a_with []) NoMaxStale ≡ None }
     ensures behind_one_released { leader_of_request wait_for_stale_policy held_with_lifetime_10
         (record exchange_forwarded_on_stale { stage = Released } ∷ []) (get_a_with []) NoMaxStale ≡ None }
     ensures behind_no_store { leader_of_request wait_for_stale_policy held_with_lifetime_10
-        (exchange_forwarded_on_stale_by get_a_with_no_store ∷ []) (get_a_with []) NoMaxStale ≡ None }
+        (exchange_forwarded_on_stale_for get_a_with_no_store ∷ []) (get_a_with []) NoMaxStale ≡ None }
     ensures behind_a_condition { leader_of_request wait_for_stale_policy []
         (forwarded_on_miss get_a_if_changed ∷ []) (get_a_with []) UriMiss ≡ None }
     ensures behind_a_kept_condition { leader_of_request
         (record wait_for_stale_policy { forwards_conditions = false }) []
         (forwarded_on_miss get_a_if_changed ∷ []) (get_a_with []) UriMiss ≡ Some 1 }
     ensures behind_a_condition_about_stale { leader_of_request wait_for_stale_policy held_with_lifetime_10
-        (exchange_forwarded_on_stale_by get_a_if_changed ∷ []) (get_a_with []) NoMaxStale ≡ None }
+        (exchange_forwarded_on_stale_for get_a_if_changed ∷ []) (get_a_with []) NoMaxStale ≡ None }
     ensures behind_a_condition_of_the_proxy { leader_of_request wait_for_stale_policy held_with_lifetime_10
         (record (exchange_that_revalidates_e get_a_if_changed) { rule = NoMaxStale } ∷ []) (get_a_with []) NoMaxStale
         ≡ Some 1 }
     ensures behind_one_overtaken { leader_of_request wait_for_stale_policy []
         (record (forwarded_on_miss (get_a_with [])) { overtaken = true } ∷ []) (get_a_with []) UriMiss ≡ None }
     ensures behind_authorization { leader_of_request wait_for_stale_policy held_with_lifetime_10
-        (exchange_forwarded_on_stale_by get_a_with_authorization ∷ []) (get_a_with []) NoMaxStale ≡ None }
+        (exchange_forwarded_on_stale_for get_a_with_authorization ∷ []) (get_a_with []) NoMaxStale ≡ None }
     ensures with_authorization { leader_of_request wait_for_stale_policy held_with_lifetime_10
         (exchange_forwarded_on_stale ∷ [])
         get_a_with_authorization NoMaxStale ≡ None }
     ensures both_with_authorization { leader_of_request wait_for_stale_policy held_with_lifetime_10
-        (exchange_forwarded_on_stale_by get_a_with_authorization ∷ []) get_a_with_authorization NoMaxStale ≡ Some 1 }
+        (exchange_forwarded_on_stale_for get_a_with_authorization ∷ []) get_a_with_authorization NoMaxStale ≡ Some 1 }
     ensures both_with_authorization_at_a_miss { leader_of_request wait_for_stale_policy []
         (forwarded_on_miss get_a_with_authorization ∷ []) get_a_with_authorization UriMiss ≡ Some 1 }
     ensures past_authorization { leader_of_request wait_for_stale_policy held_with_lifetime_10
-        (exchange_forwarded_on_stale_by get_a_with_authorization ∷ record exchange_forwarded_on_stale { id = 2 }
+        (exchange_forwarded_on_stale_for get_a_with_authorization ∷ record exchange_forwarded_on_stale { id = 2 }
         ∷ []) (get_a_with [])
         NoMaxStale ≡ Some 2 }
     ensures missing { leader_of_request wait_for_stale_policy [] (forwarded_on_miss (get_a_with []) ∷ [])
@@ -554,14 +559,14 @@ pub fn worked_step_faults_and_serials()
     ensures second { serial_after_this 1 ≡ Some 2 }
     ensures last { serial_after_this 18446744073709551614 ≡ Some 18446744073709551615 }
     ensures none_left { serial_after_this 18446744073709551615 ≡ None }
-    ensures stored { next_serial_after (Some 4) (Some 4) ≡ Some 5 }
-    ensures not_stored { next_serial_after (Some 4) None ≡ Some 4 }
+    ensures stored { next_serial_after_storing (Some 4) (Some 4) ≡ Some 5 }
+    ensures not_stored { next_serial_after_storing (Some 4) None ≡ Some 4 }
 {}
 
 /// What a request gets that arrives: the line that denies it, the stored response, its origin, the
 /// answer to another, or the rule where it takes no response but a stored one; and a request that
 /// waited, when it is woken.
-#[tactic(auto, unfolding(hx_reuse::specs::Rules::decision_of, hx_reuse::specs::Rules::reuse_rule_of, hx_allow::specs::Matching::policy_of, hx_hop::specs::Forwarding::forwarded_of, httpdate::proofs::OnLiterals::httpdate_on_literals))]
+#[tactic(auto, unfolding(hx_reuse::specs::Rules::decision_of, hx_reuse::specs::Rules::least_reuse_rule_of, hx_allow::specs::Matching::policy_of, hx_hop::specs::Forwarding::forwarded_of, httpdate::proofs::OnLiterals::httpdate_on_literals))]
 pub fn worked_outcomes_of_arrivals()
     ensures denied { outcome_of_arrival table (stored_from_first_answer
         ∷ []) [] 130 (get_a_with []) (verdict.DeniedBy 3)
@@ -574,7 +579,7 @@ pub fn worked_outcomes_of_arrivals()
         ≡ Reply (record {
           bytes = codes "HTTP/1.1 204 \r\nDate: Thu, 01 Jan 1970 00:02:10 GMT\r\nPurged: 1\r\n\r\n";
           close = false;
-          about = about_purge 1;
+          about = purge_status_and_reason 1;
           stored = None;
           used = None;
           removed = 1 ∷ [];
@@ -585,31 +590,31 @@ pub fn worked_outcomes_of_arrivals()
         (outcome_of_arrival table [] [] 130 (get_a_with []) (verdict.Purged 3)) ≡ [] }
     ensures hit { serial_used_by_outcome (outcome_of_arrival table (stored_from_first_answer
         ∷ []) [] 130 (get_a_with [])
-        (verdict.Allowed (route_over 1))) ≡ Some 1 }
+        (verdict.Allowed (route_over_line 1))) ≡ Some 1 }
     ensures stays { serials_removed_by_outcome (outcome_of_arrival table (stored_from_first_answer
         ∷ []) [] 130 (get_a_with [])
-        (verdict.Allowed (route_over 1))) ≡ [] }
+        (verdict.Allowed (route_over_line 1))) ≡ [] }
     ensures without_cache { outcome_of_arrival table (stored_from_first_answer ∷ []) [] 130 (get_a_with [])
-        (verdict.Allowed (route_over 2))
-        ≡ Forward (route_over 2) (codes "GET /a HTTP/1.1\r\nHost: h\r\nVia: 1.1 edge\r\nConnection: close\r\n\r\n") }
+        (verdict.Allowed (route_over_line 2))
+        ≡ Forward (route_over_line 2) (codes "GET /a HTTP/1.1\r\nHost: h\r\nVia: 1.1 edge\r\nConnection: close\r\n\r\n") }
     ensures validates { outcome_of_arrival table (stored_without_lifetime ∷ []) [] 130 (get_a_with [])
-        (verdict.Allowed (route_over 1)) ≡ Forward (route_over 1) (codes "GET /a HTTP/1.1\r\nHost: h\r\nIf-None-Match: \"e\"\r\nVia: 1.1 edge\r\nConnection: close\r\n\r\n") }
+        (verdict.Allowed (route_over_line 1)) ≡ Forward (route_over_line 1) (codes "GET /a HTTP/1.1\r\nHost: h\r\nIf-None-Match: \"e\"\r\nVia: 1.1 edge\r\nConnection: close\r\n\r\n") }
     ensures conditional { outcome_of_arrival table [] [] 130 (get_a_with (line (codes "If-None-Match") (codes "\"v0\"") ∷ []))
-        (verdict.Allowed (route_over 1)) ≡ Forward (route_over 1) (codes "GET /a HTTP/1.1\r\nHost: h\r\nIf-None-Match: \"v0\"\r\nVia: 1.1 edge\r\nConnection: close\r\n\r\n") }
+        (verdict.Allowed (route_over_line 1)) ≡ Forward (route_over_line 1) (codes "GET /a HTTP/1.1\r\nHost: h\r\nIf-None-Match: \"v0\"\r\nVia: 1.1 edge\r\nConnection: close\r\n\r\n") }
     ensures conditional_kept { outcome_of_arrival (table_with_policy keeps_conditions_policy) [] [] 130
-        (get_a_with (line (codes "If-None-Match") (codes "\"v0\"") ∷ [])) (verdict.Allowed (route_over 1))
-        ≡ Forward (route_over 1) (codes "GET /a HTTP/1.1\r\nHost: h\r\nVia: 1.1 edge\r\nConnection: close\r\n\r\n") }
+        (get_a_with (line (codes "If-None-Match") (codes "\"v0\"") ∷ [])) (verdict.Allowed (route_over_line 1))
+        ≡ Forward (route_over_line 1) (codes "GET /a HTTP/1.1\r\nHost: h\r\nVia: 1.1 edge\r\nConnection: close\r\n\r\n") }
     ensures waits { outcome_of_arrival table [] (forwarded_on_miss (get_a_with []) ∷ []) 130 (get_a_with [])
-        (verdict.Allowed (route_over 1)) ≡ Waits 1 }
+        (verdict.Allowed (route_over_line 1)) ≡ Waits 1 }
     ensures only_if_cached { outcome_of_arrival table [] [] 130
-        (get_a_with (cache_control (codes "only-if-cached") ∷ [])) (verdict.Allowed (route_over 1))
+        (get_a_with (cache_control (codes "only-if-cached") ∷ [])) (verdict.Allowed (route_over_line 1))
         ≡ outcome_of_refusal 130 (OnlyIfCached UriMiss) (get_a_with (cache_control (codes "only-if-cached") ∷ [])) }
-    ensures woken_hit { bytes_of_reply_outcome (outcome_of_wake table (stored_from_first_answer
+    ensures woken_hit { bytes_of_outcome (outcome_of_wake table (stored_from_first_answer
         ∷ []) 130 waiting (decision.Hit 1))
         ≡ codes "HTTP/1.1 200 \r\nDate: Thu, 01 Jan 1970 00:01:41 GMT\r\nCache-Control: max-age=60\r\nETag: \"v1\"\r\nAge: 30\r\nCache-Status: edge;fwd=uri-miss;ttl=30;collapsed\r\nContent-Length: 2\r\n\r\nhi" }
     ensures woken_goes_forward { outcome_of_wake table (stored_without_lifetime ∷ []) 130 waiting
         (decision.Forward NoLifetime (Some 1))
-        ≡ Forward (route_over 1) (codes "GET /a HTTP/1.1\r\nHost: h\r\nIf-None-Match: \"e\"\r\nVia: 1.1 edge\r\nConnection: close\r\n\r\n") }
+        ≡ Forward (route_over_line 1) (codes "GET /a HTTP/1.1\r\nHost: h\r\nIf-None-Match: \"e\"\r\nVia: 1.1 edge\r\nConnection: close\r\n\r\n") }
 {}
 
 /// What an answer of the origin gives: a 304 sends the stored response that was revalidated, with
@@ -618,19 +623,19 @@ pub fn worked_outcomes_of_arrivals()
 /// a stored response is sent (RFC 5861, section 4).
 #[tactic(auto, unfolding(hx_hop::specs::Forwarding::forwarded_of, hx_validate::specs::Answering::freshened_of, httpdate::proofs::OnLiterals::httpdate_on_literals))]
 pub fn worked_outcomes_of_answers()
-    ensures validated { bytes_of_reply_outcome (outcome_of_answer table (stored_without_lifetime ∷ []) 105
-        (exchange_that_revalidates_e (get_a_with [])) (response_with 304 lines_of_304)
+    ensures validated { bytes_of_outcome (outcome_of_answer table (stored_without_lifetime ∷ []) 105
+        (exchange_that_revalidates_e (get_a_with [])) (response_with 304 lines_of_origins_304)
         (Some 4) (decision.Forward NoLifetime (Some 1))) ≡ codes "HTTP/1.1 200 \r\nDate: Thu, 01 Jan 1970 00:01:41 GMT\r\nCache-Control: max-age=60\r\nETag: \"e\"\r\nAge: 5\r\nCache-Status: edge;fwd=stale;fwd-status=304;ttl=55;detail=no-lifetime\r\nContent-Length: 2\r\n\r\nhi" }
     ensures another_tag { outcome_of_answer table (stored_without_lifetime
         ∷ []) 105 (exchange_that_revalidates_e (get_a_with []))
         (response_with 304 (etag_field (codes "\"f\"") ∷ [])) (Some 4) (decision.Forward NoLifetime (Some 1))
-        ≡ Forward (route_over 1) (codes "GET /a HTTP/1.1\r\nHost: h\r\nVia: 1.1 edge\r\nConnection: close\r\n\r\n") }
-    ensures another_response { stored_response_is_answered (exchange_that_revalidates_e (get_a_with []))
-        (response_with 304 lines_of_304) 105
+        ≡ Forward (route_over_line 1) (codes "GET /a HTTP/1.1\r\nHost: h\r\nVia: 1.1 edge\r\nConnection: close\r\n\r\n") }
+    ensures another_response { stored_response_is_answered_by_304 (exchange_that_revalidates_e (get_a_with []))
+        (response_with 304 lines_of_origins_304) 105
         (record stored_without_lifetime { serial = 2 }) ≡ false }
     ensures unasked { outcome_of_answer table [] 105 (forwarded_on_miss (get_a_with [])) (response_with 304 [])
         (Some 4) (decision.Forward UriMiss None)
-        ≡ outcome_after_origin (forwarded_on_miss (get_a_with [])).line []
+        ≡ reply_after_origin_was_asked (forwarded_on_miss (get_a_with [])).line []
         (outcome_of_refusal 105 (Origin BadAnswer UriMiss None) (get_a_with [])) }
     ensures error { serial_used_by_outcome (outcome_of_passing_on_or_stale table (stored_from_first_answer ∷ []) 130
         (forwarded_on_miss (get_a_with [])) (response_with 503 []) (Some 4) true
@@ -638,7 +643,7 @@ pub fn worked_outcomes_of_answers()
     ensures invalidated { serials_removed_by_answer three_held_responses (post_exchange 1 (codes "/a"))
         (response_with 204 []) None ≡ 2 ∷ 3 ∷ [] }
     ensures in_place { serials_removed_by_answer three_held_responses
-        (forwarded_on_miss (get_a_with (accept_language (codes "en") ∷ []))) (response_with 200 first_answer_fields)
+        (forwarded_on_miss (get_a_with (accept_language_line (codes "en") ∷ []))) (response_with 200 first_answer_fields)
         (Some 4)
         ≡ 2 ∷ [] }
 {}
@@ -646,65 +651,68 @@ pub fn worked_outcomes_of_answers()
 /// What a step leaves of the open exchanges: an end releases those that waited for it, an
 /// invalidation overtakes those of its key (RFC 9111, section 4.4), what arrives stands behind the
 /// others, and what goes forward has the moment and the rule of that.
-#[tactic(auto, unfolding(hx_reuse::specs::Rules::decision_of, hx_reuse::specs::Rules::reuse_rule_of, hx_allow::specs::Matching::policy_of, hx_allow::specs::Matching::verdict_of, hx_allow::specs::Matching::verdict_of_request, hx_allow::specs::Matching::matches_line, httpdate::proofs::OnLiterals::httpdate_on_literals))]
+#[tactic(auto, unfolding(hx_reuse::specs::Rules::decision_of, hx_reuse::specs::Rules::least_reuse_rule_of, hx_allow::specs::Matching::policy_of, hx_allow::specs::Matching::verdict_of, hx_allow::specs::Matching::verdict_of_request, hx_allow::specs::Matching::matches_line, httpdate::proofs::OnLiterals::httpdate_on_literals))]
 pub fn worked_open_exchanges_after_a_step()
-    ensures gone { open_exchanges_after table [] (forwarded_on_miss (get_a_with []) ∷ waiting
+    ensures gone { open_exchanges_after_event table [] (forwarded_on_miss (get_a_with []) ∷ waiting
         ∷ record waiting { id = 3; stage = Waiting 9 } ∷ [])
         (Abandon 1) Ended ≡ record waiting { stage = Released } ∷ record waiting { id = 3; stage = Waiting 9 } ∷ [] }
-    ensures failed { open_exchanges_after table [] (forwarded_on_miss (get_a_with []) ∷ waiting ∷ [])
+    ensures failed { open_exchanges_after_event table [] (forwarded_on_miss (get_a_with []) ∷ waiting ∷ [])
         (Fail 130 1 Refused) Ended
         ≡ record waiting { stage = Released } ∷ [] }
-    ensures invalidated { open_exchanges_after table [] (post_exchange 1 (codes "/a") ∷ post_exchange 2 (codes "/a")
+    ensures invalidated { open_exchanges_after_event table [] (post_exchange 1 (codes "/a") ∷ post_exchange 2 (codes "/a")
         ∷ post_exchange 3 (codes "/b")
         ∷ []) (Answer 130 1 (response_with 204 [])) Ended
         ≡ record (post_exchange 2 (codes "/a")) { overtaken = true } ∷ post_exchange 3 (codes "/b") ∷ [] }
-    ensures purged { open_exchanges_after table [] (record (post_exchange 1 (codes "/a")) { overtaken = false }
+    ensures purged { open_exchanges_after_event table [] (record (post_exchange 1 (codes "/a")) { overtaken = false }
         ∷ post_exchange 2 (codes "/b") ∷ []) (Arrive 130 3 (get_a_with [])) (outcome_of_purge [] 130 (get_a_with []))
         ≡ record (post_exchange 1 (codes "/a")) { overtaken = true } ∷ post_exchange 2 (codes "/b") ∷ [] }
-    ensures denied { open_exchanges_after table [] (post_exchange 1 (codes "/a") ∷ []) (Arrive 130 3 (get_a_with []))
+    ensures denied { open_exchanges_after_event table [] (post_exchange 1 (codes "/a") ∷ [])
+        (Arrive 130 3 (get_a_with []))
         (outcome_of_refusal 130 (Denied 1) (get_a_with [])) ≡ post_exchange 1 (codes "/a") ∷ [] }
-    ensures behind { open_exchanges_after table [] (post_exchange 1 (codes "/b") ∷ []) (Arrive 130 2 (get_a_with []))
-        (Forward (route_over 1) [])
+    ensures behind { open_exchanges_after_event table [] (post_exchange 1 (codes "/b") ∷ [])
+        (Arrive 130 2 (get_a_with []))
+        (Forward (route_over_line 1) [])
         ≡ post_exchange 1 (codes "/b") ∷ record (forwarded_on_miss (get_a_with [])) { id = 2; request_time = 130 } ∷ [] }
-    ensures varied { open_exchanges_after table_varying_by_scheme [] [] (Arrive 130 1 (get_a_with []))
-        (Forward (route_over 1) [])
-        ≡ record (over_line_varying_by_scheme (forwarded_on_miss (get_a_with []))) { request_time = 130 } ∷ [] }
-    ensures waits { open_exchanges_after table [] (forwarded_on_miss (get_a_with []) ∷ [])
+    ensures varied { open_exchanges_after_event table_varying_by_scheme [] [] (Arrive 130 1 (get_a_with []))
+        (Forward (route_over_line 1) [])
+        ≡ record (exchange_varying_by_scheme (forwarded_on_miss (get_a_with []))) { request_time = 130 } ∷ [] }
+    ensures waits { open_exchanges_after_event table [] (forwarded_on_miss (get_a_with []) ∷ [])
         (Arrive 130 2 (get_a_with [])) (Waits 1)
         ≡ forwarded_on_miss (get_a_with []) ∷ record waiting { request_time = 130 } ∷ [] }
-    ensures to_be_stored { open_exchanges_after table [] [] (Arrive 130 1 get_a_with_authorization)
-        (Forward (route_over 1) [])
+    ensures to_be_stored { open_exchanges_after_event table [] [] (Arrive 130 1 get_a_with_authorization)
+        (Forward (route_over_line 1) [])
         ≡ record (forwarded_on_miss get_a_with_authorization) { request_time = 130; no_store = false } ∷ [] }
-    ensures not_to_be_stored { open_exchanges_after table [] [] (Arrive 130 1 get_a_with_no_store)
-        (Forward (route_over 1) [])
+    ensures not_to_be_stored { open_exchanges_after_event table [] [] (Arrive 130 1 get_a_with_no_store)
+        (Forward (route_over_line 1) [])
         ≡ record (forwarded_on_miss get_a_with_no_store) { request_time = 130; no_store = true } ∷ [] }
-    ensures names_what_is_held { open_exchanges_after table (stored_without_lifetime ∷ []) []
-        (Arrive 130 1 (get_a_with [])) (Forward (route_over 1) [])
+    ensures names_what_is_held { open_exchanges_after_event table (stored_without_lifetime ∷ []) []
+        (Arrive 130 1 (get_a_with [])) (Forward (route_over_line 1) [])
         ≡ record (exchange_that_revalidates_e (get_a_with [])) { request_time = 130; named = Some 1 } ∷ [] }
-    ensures woken_on { open_exchanges_after table (stored_without_lifetime ∷ []) (record waiting { overtaken = true }
+    ensures woken_on { open_exchanges_after_event table (stored_without_lifetime ∷ [])
+        (record waiting { overtaken = true }
         ∷ []) (Wake 130 2)
-        (Forward (route_over 1) [])
+        (Forward (route_over_line 1) [])
         ≡ record (exchange_that_revalidates_e (get_a_with [])) { id = 2; request_time = 130 } ∷ [] }
-    ensures again { open_exchanges_after table []
+    ensures again { open_exchanges_after_event table []
         (record (exchange_that_revalidates_e (get_a_with [])) { overtaken = true }
-        ∷ []) (Answer 130 1 (response_with 304 [])) (Forward (route_over 1) [])
+        ∷ []) (Answer 130 1 (response_with 304 [])) (Forward (route_over_line 1) [])
         ≡ record (exchange_that_revalidates_e (get_a_with [])) { request_time = 130; condition = None } ∷ [] }
 {}
 
 /// And of the stored responses: what is stored or used comes first, the last goes beyond the limit, and a 304 freshens.
 #[tactic(auto, unfolding(hx_validate::specs::Answering::freshened_of, httpdate::proofs::OnLiterals::httpdate_on_literals))]
 pub fn worked_stored_responses_after_a_step()
-    ensures stored { serials (entries_after_storing (Some (forwarded_on_miss (get_a_with [])))
+    ensures stored { serials (entries_after_removal_and_storing (Some (forwarded_on_miss (get_a_with [])))
         (Answer 101 1 (response_with 200 first_answer_fields)) (Some 4)
         (3 ∷ []) three_held_responses) ≡ 4 ∷ 2 ∷ 1 ∷ [] }
-    ensures cut { serials (evicted_if_stored_or_used (record { entries = 2; bytes = None }) (Some 4) None
-        (entries_after_storing (Some (forwarded_on_miss (get_a_with [])))
+    ensures cut { serials (cut_to_bounds_if_stored_or_used (record { entries = 2; bytes = None }) (Some 4) None
+        (entries_after_removal_and_storing (Some (forwarded_on_miss (get_a_with [])))
         (Answer 101 1 (response_with 200 first_answer_fields)) (Some 4) (3 ∷ []) three_held_responses)) ≡ 4 ∷ 2 ∷ [] }
     ensures used { serials (entries_after_use (Some waiting) (Wake 130 2) (Some 2) three_held_responses) ≡ 2 ∷ 3 ∷ 1
         ∷ [] }
     ensures freshened { entries_after_use (Some (exchange_that_revalidates_e (get_a_with [])))
-        (Answer 105 1 (response_with 304 lines_of_304)) (Some 1)
-        (stored_without_lifetime ∷ []) ≡ record (stored_with 1 lines_of_304) {
+        (Answer 105 1 (response_with 304 lines_of_origins_304)) (Some 1)
+        (stored_without_lifetime ∷ []) ≡ record (stored_of_fields 1 lines_of_origins_304) {
           times = record { date = 101; age_value = 0; request_time = 100; response_time = 105; expired = None };
         } ∷ [] }
 {}

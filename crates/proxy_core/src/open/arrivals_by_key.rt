@@ -10,16 +10,16 @@ ghost use Rattle.proxy_core.specs.ByKey.{IsEmptyKeyIndex, ArrivalIsMovedToOrigin
 ghost use Rattle.proxy_core.specs.ByKey.{is_get_at_origin, is_get_not_at_origin};
 
 use crate::open::exchange::Exchange;
-use crate::open::key_index::KeyIndex;
+use crate::open::key_index::ArrivalKeyIndex;
 use crate::open::leading::{is_forwarded, is_get};
 use std::alloc::{AllocError, Global};
 
 /// The numbers of the arrivals, by the key that they ask for.
 pub(crate) struct ArrivalsByKey {
     /// Those of the GETs that are at the origin.
-    pub(crate) gets: KeyIndex,
+    pub(crate) gets: ArrivalKeyIndex,
     /// Those of other methods, and of the GETs that wait or were released.
-    pub(crate) others: KeyIndex,
+    pub(crate) others: ArrivalKeyIndex,
 }
 
 /// One call drops it, wherever that is.
@@ -37,8 +37,8 @@ impl ArrivalsByKey {
         ensures trim { NoIndexOfArrivalsHasEmptySet result }
     {
         ArrivalsByKey {
-            gets: KeyIndex::new(alloc),
-            others: KeyIndex::new(alloc),
+            gets: ArrivalKeyIndex::new(alloc),
+            others: ArrivalKeyIndex::new(alloc),
         }
     }
 

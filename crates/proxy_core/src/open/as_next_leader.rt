@@ -7,11 +7,11 @@ ghost use Rattle.proxy_core.specs.LeadingOn.{as_next_leader, follows_next_leader
 use crate::open::exchange::Exchange;
 use crate::open::leading::{has_authorization, waits_for as stage_waits_for};
 use crate::open::stage::Stage;
-use hx_allow::Config;
+use hx_allow::Table;
 use hx_reuse::{forwards_client_condition, forwards_range};
 
 /// So many are led on at most, since each is looked at.
-pub(crate) const MOST_FOLLOWERS: usize = 512;
+pub(crate) const MOST_FOLLOWERS_LED_ON: usize = 512;
 
 /// What those that are to wait for the next leader have to know of it.
 #[derive(Clone, Copy)]
@@ -34,14 +34,14 @@ impl NextLeader {
 }
 
 /// Whether the request of an exchange waits for a limited time, over its line.
-fn wait_is_limited(config: &Config, exchange: &Exchange) -> bool
+fn wait_is_limited(config: &Table, exchange: &Exchange) -> bool
     ensures { result ≡ wait_is_limited config.now exchange.now }
 {
     config.wait_timeout(exchange.line.number).is_some()
 }
 
 /// Whether others could be sent the answer to the request of an exchange that waits, should it go forward.
-fn may_lead_next(config: &Config, exchange: &Exchange) -> bool
+fn may_lead_next(config: &Table, exchange: &Exchange) -> bool
     ensures { result ≡ may_lead_next config.now exchange.now }
 {
     let policy = config.policy(exchange.line);
@@ -52,7 +52,7 @@ fn may_lead_next(config: &Config, exchange: &Exchange) -> bool
 }
 
 /// Whether an exchange is another than the one of this id, waits for it, and may lead on.
-pub(crate) fn may_become_next_leader(config: &Config, id: u64, exchange: &Exchange) -> bool
+pub(crate) fn may_become_next_leader(config: &Table, id: u64, exchange: &Exchange) -> bool
     ensures { result ≡ (not (exchange.now.id == id)
         && (waits_for id exchange.now.stage && may_lead_next config.now exchange.now)) }
 {
@@ -60,7 +60,7 @@ pub(crate) fn may_become_next_leader(config: &Config, id: u64, exchange: &Exchan
 }
 
 /// Whether an exchange that waits could be sent the answer to the next leader.
-pub(crate) fn follows_next_leader(config: &Config, next: NextLeader, exchange: &Exchange) -> bool
+pub(crate) fn follows_next_leader(config: &Table, next: NextLeader, exchange: &Exchange) -> bool
     ensures { result ≡ follows_next_leader config.now next exchange.now }
 {
     let policy = config.policy(exchange.line);
@@ -70,7 +70,7 @@ pub(crate) fn follows_next_leader(config: &Config, next: NextLeader, exchange: &
 }
 
 /// Whether an exchange waits for the next leader from now on, or may be woken.
-pub(crate) fn stage_after_leader(config: &Config, next: NextLeader, exchange: &Exchange) -> Stage
+pub(crate) fn stage_after_leader(config: &Table, next: NextLeader, exchange: &Exchange) -> Stage
     ensures { result ≡ stage_after_leader config.now (Some next) exchange.now }
 {
     if follows_next_leader(config, next, exchange) {

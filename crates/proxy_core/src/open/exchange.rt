@@ -1,15 +1,15 @@
 //! A request that went forward, or waits for the answer to another, and isn't answered yet.
 ghost use Rattle.std.specs.Prelude.{◌≡◌, Some};
-ghost use Rattle.proxy_core.specs.LeadingOn.{after_abandon};
+ghost use Rattle.proxy_core.specs.LeadingOn.{waiter_after_abandon};
 ghost use Rattle.proxy_core.specs.Scopes.{scope_without_tag, scope_of_target_alone};
-ghost use Rattle.proxy_core.specs.State.{exchange_gone_forward, overtaken_exchange};
-ghost use Rattle.proxy_core.specs.State.{released_exchange, exchange_released_by_timeout};
+ghost use Rattle.proxy_core.specs.State.{exchange_gone_forward, exchange_overtaken_if_in_scope};
+ghost use Rattle.proxy_core.specs.State.{exchange_released_from_leader, exchange_released_by_timeout};
 
 use crate::open::as_next_leader::{NextLeader, stage_after_leader};
 use crate::open::leading::waits_for;
 use crate::open::stage::Stage;
 use crate::steps::condition::Condition;
-use hx_allow::{Config, PurgeScope, RequestRoute};
+use hx_allow::{PurgeScope, RouteOverLine, Table};
 use hx_hop::Asked;
 use hx_reuse::ReuseRule;
 use hx_target::Key;
@@ -20,11 +20,11 @@ pub struct Exchange {
     pub id: u64,
     pub asked: Asked,
     /// The line of the table that allowed it, and whether it goes past the store over that.
-    pub line: RequestRoute,
+    pub line: RouteOverLine,
     /// The fields that count as if the Vary of its answer named them: those of its line when it arrived.
     pub vary: FieldNames,
     /// What is stored of its answer has no Set-Cookie, as its line said when it arrived (RFC 9111, section 7.3).
-    pub removes_cookies: bool,
+    pub removes_set_cookie: bool,
     /// The rule at arrival, or when it was woken. It is named in the answer even if the store has changed since.
     pub rule: ReuseRule,
     /// The held response that this rule names.
@@ -50,7 +50,7 @@ impl Exchange {
             asked,
             line: _,
             vary: _,
-            removes_cookies: _,
+            removes_set_cookie: _,
             rule: _,
             named: _,
             request_time: _,
@@ -82,7 +82,7 @@ impl Exchange {
 
     /// It waits no longer, if it waited for the exchange of this id.
     pub(crate) fn release(&mut self, leader: u64)
-        ensures { self.new ≡ released_exchange leader self.old }
+        ensures { self.new ≡ exchange_released_from_leader leader self.old }
     {
         if waits_for(self.stage, leader) {
             self.stage = Stage::Released;
@@ -91,8 +91,8 @@ impl Exchange {
 
     /// The client of the exchange of this id has gone. If it waited for that one it waits for the next leader, or may
     /// be woken.
-    pub(crate) fn lead_on(&mut self, config: &Config, next: NextLeader, leader: u64)
-        ensures { self.new ≡ after_abandon config.now (Some next) leader self.old }
+    pub(crate) fn lead_on(&mut self, config: &Table, next: NextLeader, leader: u64)
+        ensures { self.new ≡ waiter_after_abandon config.now (Some next) leader self.old }
     {
         if waits_for(self.stage, leader) {
             self.stage = stage_after_leader(config, next, self);
@@ -108,7 +108,7 @@ impl Exchange {
 
     /// Marks it, if it is of a key that was invalidated (RFC 9111, section 4.4).
     pub(crate) fn overtake(&mut self, key: &Key)
-        ensures { self.new ≡ overtaken_exchange (scope_of_target_alone key.now) self.old }
+        ensures { self.new ≡ exchange_overtaken_if_in_scope (scope_of_target_alone key.now) self.old }
     {
         if self.asked.target.key.is_same(key) {
             self.overtaken = true;
@@ -117,7 +117,7 @@ impl Exchange {
 
     /// Marks it, if its target is within the scope of a purge that was asked for a key.
     pub(crate) fn overtake_within(&mut self, reach: PurgeScope, asked: &Key)
-        ensures { self.new ≡ overtaken_exchange (scope_without_tag reach asked.now) self.old }
+        ensures { self.new ≡ exchange_overtaken_if_in_scope (scope_without_tag reach asked.now) self.old }
     {
         if reach.has(asked, &self.asked.target.key) {
             self.overtaken = true;
@@ -133,7 +133,7 @@ impl Drop for Exchange {
             asked: _,
             line: _,
             vary: _,
-            removes_cookies: _,
+            removes_set_cookie: _,
             rule: _,
             named: _,
             request_time: _,

@@ -18,38 +18,43 @@ ghost use Rattle.std.specs.BTreeMap.{get, keys, values, is_at};
 ghost use Rattle.proxy_core.specs.ByKey.{ArrivalsOfGetsAtOriginPassTest, ArrivalIsAddedToItsKeyIndex};
 ghost use Rattle.proxy_core.specs.ByKey.{ArrivalIsRemovedFromItsKeyIndex};
 ghost use Rattle.proxy_core.specs.ByKey.{ArrivalsByKeyAreUnchanged};
-ghost use Rattle.proxy_core.specs.ByKey.{ArrivalIsInNeitherKeyIndex, NoIndexOfArrivalsHasEmptySet, is_in_key_index};
+ghost use Rattle.proxy_core.specs.ByKey.{ArrivalIsInNeitherKeyIndex, NoIndexOfArrivalsHasEmptySet};
+ghost use Rattle.proxy_core.specs.ByKey.{arrival_is_in_key_index};
 ghost use Rattle.proxy_core.specs.ByKey.{ArrivalIsMovedToOrigin};
 ghost use Rattle.std.specs.BTreeSet.{contains};
-ghost use Rattle.proxy_core.specs.Arrivals.{WaitingArrivalsPassTest, map_exchanges, map_exchanges_that_pass};
+ghost use Rattle.proxy_core.specs.Arrivals.{WaitingArrivalsPassTest, exchanges_each_changed};
+ghost use Rattle.proxy_core.specs.Arrivals.{map_exchanges_where_number_passes};
 ghost use Rattle.proxy_core.specs.Arrivals.{is_arrival_of_selected};
-ghost use Rattle.proxy_core.specs.Waiters.{WaiterIsEntered, WaiterIsRemoved, WaitIndexesHaveSameMembers};
+ghost use Rattle.proxy_core.specs.Waiters.{ArrivalIsAddedIfWaiting, ArrivalIsRemovedIfWaiting};
+ghost use Rattle.proxy_core.specs.Waiters.{WaitIndexesHaveSameMembers};
 ghost use Rattle.proxy_core.specs.Waiters.{ArrivalIsNotInWaitIndex};
 ghost use Rattle.proxy_core.specs.Waiters.{WaitIndexHasNoEmptySet};
 ghost use Rattle.proxy_core.specs.Outcomes.{find_exchange};
 ghost use Rattle.proxy_core.specs.Leading.{leader, wakeable_ids};
 ghost use Rattle.proxy_core.specs.Scopes.{scope_without_tag, scope_of_target_alone};
-ghost use Rattle.proxy_core.specs.State.{exchanges_after_close, released_exchange, overtaken_exchange};
-ghost use Rattle.proxy_core.specs.State.{exchanges_after_end, exchange_forwarded_again, exchange_sent_forward};
-ghost use Rattle.proxy_core.specs.State.{overdue_exchange};
+ghost use Rattle.proxy_core.specs.State.{exchanges_after_end_and_release, exchange_released_from_leader};
+ghost use Rattle.proxy_core.specs.State.{exchange_overtaken_if_in_scope};
+ghost use Rattle.proxy_core.specs.State.{exchanges_after_exchange_end, exchange_after_second_forward};
+ghost use Rattle.proxy_core.specs.State.{exchange_sent_forward_if_of_id};
+ghost use Rattle.proxy_core.specs.State.{exchange_after_wait_timeout};
 ghost use Rattle.proxy_core.specs.LeadingOn.{next_leader, first_waiter_to_lead as first_of_list, exchanges_without};
 ghost use Rattle.proxy_core.specs.LeadingOn.{exchanges_after_abandon};
-ghost use Rattle.proxy_core.specs.LeadingOn.{after_abandon, follows_next_leader as is_follower};
+ghost use Rattle.proxy_core.specs.LeadingOn.{waiter_after_abandon, follows_next_leader as is_follower};
 
 use crate::open::arrivals_by_key::ArrivalsByKey;
 use crate::open::as_next_leader::{
-    MOST_FOLLOWERS, NextLeader, follows_next_leader, may_become_next_leader,
+    MOST_FOLLOWERS_LED_ON, NextLeader, follows_next_leader, may_become_next_leader,
 };
 use crate::open::awaited::Awaited;
 use crate::open::exchange::Exchange;
 use crate::open::ids::Ids;
-use crate::open::key_index::KeyIndex;
+use crate::open::key_index::ArrivalKeyIndex;
 use crate::open::leading::{is_leader_for_request, is_released, is_waiting};
 use crate::open::released::Released;
 use crate::open::stage::Stage;
 use crate::open::wait_index::WaitIndex;
 use crate::steps::condition::Condition;
-use hx_allow::{Config, PurgeScope};
+use hx_allow::{PurgeScope, Table};
 use hx_hop::Asked;
 use hx_policy::Policy;
 use hx_reuse::ReuseRule;
@@ -190,7 +195,7 @@ impl Exchanges {
 
     /// The exchange of an id ends, and releases those that wait for it. Gives it. Nothing is allocated.
     pub(crate) fn close(&mut self, id: u64) -> Option<Exchange>
-        ensures after { self.new ≡ exchanges_after_close id self.old }
+        ensures after { self.new ≡ exchanges_after_end_and_release id self.old }
         ensures taken { result ≡ find_exchange id self.old }
     {
         let taken = self.remove_from_index(id);
@@ -201,7 +206,7 @@ impl Exchanges {
     /// The client of the exchange of an id goes away before its answer. The first of those that wait for it and may
     /// lead on may be woken, and those wait for that one that could be sent its answer. Where memory runs out nothing
     /// has changed. It costs one walk over those that wait for it.
-    pub(crate) fn abandon(&mut self, config: &Config, id: u64) -> Result<(), AllocError>
+    pub(crate) fn abandon(&mut self, config: &Table, id: u64) -> Result<(), AllocError>
         ensures ok { OnOk result (self.new ≡ exchanges_after_abandon config.now id self.old) }
         ensures err { OnErr result (self.new ≡ self.old) }
     {
@@ -218,13 +223,13 @@ impl Exchanges {
     }
 
     /// The first of those that wait for the exchange of an id that may lead on, where not too many wait.
-    fn next_leader(&self, config: &Config, id: u64) -> Option<NextLeader>
+    fn next_leader(&self, config: &Table, id: u64) -> Option<NextLeader>
         ensures next { result ≡ next_leader config.now id self.now }
         ensures another { IfSome result (λ next. (next.id == id) ≡ false) }
     {
         match self.waiting.find(id) {
             Some(waiting) => {
-                if waiting.len() > MOST_FOLLOWERS {
+                if waiting.len() > MOST_FOLLOWERS_LED_ON {
                     return None;
                 }
                 first_waiter_to_lead(&self.by_arrival, waiting, config, id)
@@ -235,9 +240,9 @@ impl Exchanges {
 
     /// Those that wait for the exchange of an id wait for the next leader, or no longer. Where memory runs out nothing
     /// has changed.
-    fn lead_on(&mut self, config: &Config, next: NextLeader, id: u64) -> Result<(), AllocError>
+    fn lead_on(&mut self, config: &Table, next: NextLeader, id: u64) -> Result<(), AllocError>
         requires { (next.id == id) ≡ false }
-        ensures ok { OnOk result (self.new ≡ map (after_abandon config.now (Some next) id) self.old) }
+        ensures ok { OnOk result (self.new ≡ map (waiter_after_abandon config.now (Some next) id) self.old) }
         ensures err { OnErr result (self.new ≡ self.old) }
     {
         let alloc = self.waiting.alloc;
@@ -272,7 +277,7 @@ impl Exchanges {
 
     /// Those that wait for the exchange of an id wait no longer.
     fn release(&mut self, leader: u64)
-        ensures { self.new ≡ map (released_exchange leader) self.old }
+        ensures { self.new ≡ map (exchange_released_from_leader leader) self.old }
     {
         if let Some(waiting) = self.waiting.take(leader) {
             release_each(&mut self.by_arrival, &waiting, leader);
@@ -282,8 +287,8 @@ impl Exchanges {
     }
 
     /// The exchange of an id waits no longer, if it waits. Nothing is allocated.
-    pub(crate) fn overdue(&mut self, id: u64)
-        ensures { self.new ≡ map (overdue_exchange id) self.old }
+    pub(crate) fn end_wait_on_timeout(&mut self, id: u64)
+        ensures { self.new ≡ map (exchange_after_wait_timeout id) self.old }
     {
         let Some(arrival) = self.arrivals.get(&id) else {
             return;
@@ -301,7 +306,7 @@ impl Exchanges {
 
     /// The exchange of an id goes forward once more, in its place. Where memory runs out nothing has changed.
     pub(crate) fn go_forward(&mut self, id: u64, now: u64) -> Result<(), AllocError>
-        ensures ok { OnOk result (self.new ≡ map (exchange_forwarded_again id now) self.old) }
+        ensures ok { OnOk result (self.new ≡ map (exchange_after_second_forward id now) self.old) }
         ensures err { OnErr result (self.new ≡ self.old) }
     {
         let Some(arrival) = self.arrivals.get(&id) else {
@@ -327,7 +332,8 @@ impl Exchanges {
         named: Option<u64>,
         condition: Option<Condition>,
     ) -> Result<(), AllocError>
-        ensures ok { OnOk result (self.new ≡ map (exchange_sent_forward id now rule named condition) self.old) }
+        ensures ok { OnOk result
+            (self.new ≡ map (exchange_sent_forward_if_of_id id now rule named condition) self.old) }
         ensures err { OnErr result (self.new ≡ self.old) }
     {
         let Some(arrival) = self.arrivals.get(&id) else {
@@ -345,7 +351,8 @@ impl Exchanges {
     /// The exchange of an id ends, and the others of an invalidated key are overtaken. Gives it. Nothing is allocated.
     pub(crate) fn end_exchange(&mut self, id: u64, invalidated: Option<&Key>) -> Option<Exchange>
         ensures after { self.new
-            ≡ exchanges_after_end (option_map scope_of_target_alone (option_copied invalidated.entry)) id self.old }
+            ≡ exchanges_after_exchange_end
+            (option_map scope_of_target_alone (option_copied invalidated.entry)) id self.old }
         ensures taken { result ≡ find_exchange id self.old }
     {
         let taken = self.close(id);
@@ -358,7 +365,7 @@ impl Exchanges {
 
     /// Marks each exchange of a key that was invalidated or purged. It goes through those alone.
     pub(crate) fn overtake(&mut self, key: &Key)
-        ensures { self.new ≡ map (overtaken_exchange (scope_of_target_alone key.now)) self.old }
+        ensures { self.new ≡ map (exchange_overtaken_if_in_scope (scope_of_target_alone key.now)) self.old }
     {
         overtake_indexed(&mut self.by_arrival, &self.by_key.gets, key);
         overtake_indexed(&mut self.by_arrival, &self.by_key.others, key);
@@ -368,7 +375,7 @@ impl Exchanges {
     /// Marks each exchange within the scope of a purge that was asked for a key. For one target it goes through the
     /// exchanges of that key alone, else through all that are open.
     pub(crate) fn overtake_within(&mut self, reach: PurgeScope, asked: &Key)
-        ensures { self.new ≡ map (overtaken_exchange (scope_without_tag reach asked.now)) self.old }
+        ensures { self.new ≡ map (exchange_overtaken_if_in_scope (scope_without_tag reach asked.now)) self.old }
     {
         match reach {
             PurgeScope::Target => self.overtake(asked),
@@ -379,7 +386,7 @@ impl Exchanges {
     }
 
     fn overtake_all(&mut self, reach: PurgeScope, asked: &Key)
-        ensures { self.new ≡ map (overtaken_exchange (scope_without_tag reach asked.now)) self.old }
+        ensures { self.new ≡ map (exchange_overtaken_if_in_scope (scope_without_tag reach asked.now)) self.old }
     {
         overtake_each_within(&mut self.by_arrival, reach, asked);
         self.released.settle(&self.by_arrival);
@@ -436,7 +443,7 @@ fn enter(
     requires waits_not { ArrivalIsNotInWaitIndex arrival waiting.old }
     requires asks_not { ArrivalIsInNeitherKeyIndex arrival by_key.old }
     ensures ok { OnOk result (by_arrival.new.entries ≡ by_arrival.old.entries ++ (arrival, exchange) ∷ []) }
-    ensures entered { OnOk result (WaiterIsEntered exchange.stage arrival waiting.old waiting.new) }
+    ensures entered { OnOk result (ArrivalIsAddedIfWaiting exchange.stage arrival waiting.old waiting.new) }
     ensures asks { OnOk result (ArrivalIsAddedToItsKeyIndex exchange arrival by_key.old by_key.new) }
     ensures err { OnErr result (by_arrival.new.entries ≡ by_arrival.old.entries) }
     ensures left { OnErr result (WaitIndexesHaveSameMembers waiting.old waiting.new) }
@@ -463,7 +470,7 @@ fn leave_for_origin(
     arrival: u64,
     exchange: &Exchange,
 ) -> Result<(), AllocError>
-    ensures left { OnOk result (WaiterIsRemoved exchange.now.stage arrival waiting.old waiting.new) }
+    ensures left { OnOk result (ArrivalIsRemovedIfWaiting exchange.now.stage arrival waiting.old waiting.new) }
     ensures asks { OnOk result (ArrivalIsMovedToOrigin exchange.now arrival by_key.old by_key.new) }
     ensures waits_still { OnErr result (WaitIndexesHaveSameMembers waiting.old waiting.new) }
     ensures asks_still { OnErr result (ArrivalsByKeyAreUnchanged by_key.old by_key.new) }
@@ -485,7 +492,7 @@ fn remove(
     ensures taken { result ≡ get nat_cmp by_arrival.old arrival }
     ensures entries { by_arrival.new.entries ≡ remove_entry (is_at (nat_cmp arrival)) by_arrival.old.entries }
     ensures left { ForSome (get nat_cmp by_arrival.old arrival)
-        (λ x. WaiterIsRemoved x.stage arrival waiting.old waiting.new) }
+        (λ x. ArrivalIsRemovedIfWaiting x.stage arrival waiting.old waiting.new) }
     ensures asks_no_more { ForSome (get nat_cmp by_arrival.old arrival)
         (λ x. ArrivalIsRemovedFromItsKeyIndex x arrival by_key.old by_key.new) }
     ensures waits_still { ForNone (get nat_cmp by_arrival.old arrival)
@@ -528,7 +535,8 @@ fn first_to_lead(
 /// Releases those of these arrivals that wait for the exchange of an id.
 fn release_each(by_arrival: &mut BTreeMap<u64, Exchange>, waiting: &BTreeSet<u64>, leader: u64)
     requires { WaitingArrivalsPassTest leader (contains nat_cmp waiting.now) by_arrival.old.entries }
-    ensures { by_arrival.new.entries ≡ map_exchanges (released_exchange leader) by_arrival.old.entries }
+    ensures { by_arrival.new.entries
+        ≡ exchanges_each_changed (exchange_released_from_leader leader) by_arrival.old.entries }
 {
     for arrival in waiting {
         if let Some(x) = by_arrival.get_mut(arrival) {
@@ -541,7 +549,7 @@ fn release_each(by_arrival: &mut BTreeMap<u64, Exchange>, waiting: &BTreeSet<u64
 fn first_waiter_to_lead(
     by_arrival: &BTreeMap<u64, Exchange>,
     waiting: &BTreeSet<u64>,
-    config: &Config,
+    config: &Table,
     id: u64,
 ) -> Option<NextLeader>
     requires { WaitingArrivalsPassTest id (contains nat_cmp waiting.now) by_arrival.now.entries }
@@ -565,7 +573,7 @@ fn followers(
     alloc: Global,
     by_arrival: &BTreeMap<u64, Exchange>,
     waiting: &BTreeSet<u64>,
-    config: &Config,
+    config: &Table,
     next: NextLeader,
 ) -> Result<BTreeSet<u64>, AllocError>
     ensures { IfOk result (λ set. (n : ℕ) → contains nat_cmp set n ≡ (contains nat_cmp waiting.now n
@@ -586,14 +594,14 @@ fn followers(
 fn lead_each_on(
     by_arrival: &mut BTreeMap<u64, Exchange>,
     waiting: &BTreeSet<u64>,
-    config: &Config,
+    config: &Table,
     next: NextLeader,
     leader: u64,
 )
     requires waits { WaitingArrivalsPassTest leader (contains nat_cmp waiting.now) by_arrival.old.entries }
     requires another { (next.id == leader) ≡ false }
     ensures { by_arrival.new.entries
-        ≡ map_exchanges (after_abandon config.now (Some next) leader) by_arrival.old.entries }
+        ≡ exchanges_each_changed (waiter_after_abandon config.now (Some next) leader) by_arrival.old.entries }
 {
     for arrival in waiting {
         if let Some(x) = by_arrival.get_mut(arrival) {
@@ -603,9 +611,9 @@ fn lead_each_on(
 }
 
 /// Marks those of a key that an index tells.
-fn overtake_indexed(by_arrival: &mut BTreeMap<u64, Exchange>, index: &KeyIndex, key: &Key)
-    ensures { by_arrival.new.entries ≡ map_exchanges_that_pass (is_in_key_index index.now key.now)
-        (overtaken_exchange (scope_of_target_alone key.now))
+fn overtake_indexed(by_arrival: &mut BTreeMap<u64, Exchange>, index: &ArrivalKeyIndex, key: &Key)
+    ensures { by_arrival.new.entries ≡ map_exchanges_where_number_passes (arrival_is_in_key_index index.now key.now)
+        (exchange_overtaken_if_in_scope (scope_of_target_alone key.now))
         by_arrival.old.entries }
 {
     if let Some(arrivals) = index.find(key) {
@@ -615,8 +623,8 @@ fn overtake_indexed(by_arrival: &mut BTreeMap<u64, Exchange>, index: &KeyIndex, 
 
 /// Marks those of these arrivals that are of a key.
 fn overtake_each(by_arrival: &mut BTreeMap<u64, Exchange>, arrivals: &BTreeSet<u64>, key: &Key)
-    ensures { by_arrival.new.entries ≡ map_exchanges_that_pass (contains nat_cmp arrivals.now)
-        (overtaken_exchange (scope_of_target_alone key.now))
+    ensures { by_arrival.new.entries ≡ map_exchanges_where_number_passes (contains nat_cmp arrivals.now)
+        (exchange_overtaken_if_in_scope (scope_of_target_alone key.now))
         by_arrival.old.entries }
 {
     for arrival in arrivals {
@@ -629,7 +637,8 @@ fn overtake_each(by_arrival: &mut BTreeMap<u64, Exchange>, arrivals: &BTreeSet<u
 /// Marks those within the scope of a purge that was asked for a key.
 fn overtake_each_within(by_arrival: &mut BTreeMap<u64, Exchange>, reach: PurgeScope, asked: &Key)
     ensures { by_arrival.new.entries
-        ≡ map_exchanges (overtaken_exchange (scope_without_tag reach asked.now)) by_arrival.old.entries }
+        ≡ exchanges_each_changed
+        (exchange_overtaken_if_in_scope (scope_without_tag reach asked.now)) by_arrival.old.entries }
 {
     // All are retained: the contract of `retain` says what is written to each.
     by_arrival.retain(|_, x| {

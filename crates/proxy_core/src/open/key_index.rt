@@ -5,7 +5,8 @@ ghost use Rattle.std.specs.Prelude.{◌≡◌, ℕ, false, IfOk, OnOk, OnErr, op
 ghost use Rattle.std.specs.Bool.{OnFalse, OnTrue};
 ghost use Rattle.std.specs.BTreeMap.{get};
 ghost use Rattle.hx_target.specs.KeyOrder.{key_cmp};
-ghost use Rattle.proxy_core.specs.ByKey.{is_in_key_index, IsEmptyKeyIndex, ArrivalIsAddedAtKey, ArrivalIsIndexedIf};
+ghost use Rattle.proxy_core.specs.ByKey.{arrival_is_in_key_index, IsEmptyKeyIndex, ArrivalIsAddedAtKey};
+ghost use Rattle.proxy_core.specs.ByKey.{ArrivalIsAddedIfKeyIsIndexed};
 ghost use Rattle.proxy_core.specs.ByKey.{ArrivalIsRemovedAtKey, KeyIndexesHaveSameMembers, KeyIndexHasNoEmptySet};
 ghost use Rattle.proxy_core.specs.ByKey.{OtherKeysHaveNoEmptySet};
 
@@ -14,28 +15,28 @@ use std::alloc::{AllocError, Global};
 use std::collections::{BTreeMap, BTreeSet};
 
 /// The numbers of arrivals, by the key that they ask for, of which none stands there without an arrival.
-pub(crate) struct KeyIndex {
+pub(crate) struct ArrivalKeyIndex {
     alloc: Global,
     arrivals: BTreeMap<Key, BTreeSet<u64>>,
 }
 
 /// One call drops it, wherever that is.
-impl Drop for KeyIndex {
+impl Drop for ArrivalKeyIndex {
     fn drop(self) {
-        let KeyIndex {
+        let ArrivalKeyIndex {
             alloc: _,
             arrivals: _,
         } = self;
     }
 }
 
-impl KeyIndex {
+impl ArrivalKeyIndex {
     /// No arrivals.
     pub(crate) fn new(alloc: Global) -> Self
         ensures none { IsEmptyKeyIndex result }
         ensures trim { KeyIndexHasNoEmptySet result }
     {
-        KeyIndex {
+        ArrivalKeyIndex {
             alloc,
             arrivals: BTreeMap::new(alloc),
         }
@@ -65,7 +66,7 @@ impl KeyIndex {
 
     /// Enters an arrival where others ask for that key, and says whether some do.
     fn insert_beside(&mut self, key: &Key, arrival: u64) -> Result<bool, AllocError>
-        ensures ok { IfOk result (λ has. ArrivalIsIndexedIf has key.now arrival self.old self.new) }
+        ensures ok { IfOk result (λ has. ArrivalIsAddedIfKeyIsIndexed has key.now arrival self.old self.new) }
         ensures err { OnErr result (KeyIndexesHaveSameMembers self.old self.new) }
         ensures trim { KeyIndexHasNoEmptySet self.old → KeyIndexHasNoEmptySet self.new }
     {
@@ -91,7 +92,7 @@ impl KeyIndex {
     /// Takes an arrival out, and says whether it was the last that asked for that key.
     fn remove_from_index(&mut self, key: &Key, arrival: u64) -> bool
         ensures taken { ArrivalIsRemovedAtKey key.now arrival self.old self.new }
-        ensures last { OnTrue result ((m : ℕ) → is_in_key_index self.new key.now m ≡ false) }
+        ensures last { OnTrue result ((m : ℕ) → arrival_is_in_key_index self.new key.now m ≡ false) }
         ensures trim_beside { KeyIndexHasNoEmptySet self.old → OtherKeysHaveNoEmptySet key.now self.new }
         ensures trim { KeyIndexHasNoEmptySet self.old → OnFalse result (KeyIndexHasNoEmptySet self.new) }
     {

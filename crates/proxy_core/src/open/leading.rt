@@ -2,11 +2,11 @@
 ghost use Rattle.std.specs.Prelude.{◌≡◌, option_copied, IfOk};
 ghost use Rattle.hx_directives.specs.Occurrences.{occurrences_of};
 ghost use Rattle.proxy_core.specs.Leading.{is_forwarded, is_waiting, is_released, waits_for, is_get, is_uri_miss};
-ghost use Rattle.proxy_core.specs.Leading.{has_authorization, has_no_store, exchange_asks_for_awaited};
+ghost use Rattle.proxy_core.specs.Leading.{has_authorization, request_has_no_store, exchange_went_forward_for_awaited};
 ghost use Rattle.proxy_core.specs.Leading.{sends_clients_condition};
 ghost use Rattle.proxy_core.specs.Leading.{answer_may_be_shared_with, answer_may_serve, is_leader_for_request};
-ghost use Rattle.proxy_core.specs.Awaiting.{is_staleness_rule, no_cache_request_is_heeded, awaited_of_chosen};
-ghost use Rattle.proxy_core.specs.Awaiting.{awaited_by_rule};
+ghost use Rattle.proxy_core.specs.Awaiting.{is_staleness_rule, no_cache_request_is_heeded, awaited_for_chosen_response};
+ghost use Rattle.proxy_core.specs.Awaiting.{response_awaited_by_rule};
 
 use crate::open::awaited::Awaited;
 use crate::open::exchange::Exchange;
@@ -86,8 +86,8 @@ fn is_staleness_rule(rule: ReuseRule) -> bool
 }
 
 /// What an exchange went forward for is what a request could be sent.
-fn exchange_asks_for_awaited(exchange: &Exchange, awaited: Awaited) -> bool
-    ensures { result ≡ exchange_asks_for_awaited awaited exchange.now }
+fn exchange_went_forward_for_awaited(exchange: &Exchange, awaited: Awaited) -> bool
+    ensures { result ≡ exchange_went_forward_for_awaited awaited exchange.now }
 {
     match awaited {
         Awaited::Missing => is_uri_miss(exchange.rule),
@@ -142,14 +142,14 @@ pub(crate) fn is_leader_for_request(
     exchange.asked.target.key.is_same(&asked.target.key)
         && is_get(&exchange.asked)
         && is_forwarded(exchange.stage)
-        && exchange_asks_for_awaited(exchange, awaited)
+        && exchange_went_forward_for_awaited(exchange, awaited)
         && answer_may_serve(exchange, policy, asked)
 }
 
 /// Whether a request has no-store (RFC 9111, section 5.2.1.5).
-pub(crate) fn has_no_store(asked_directives: &Directives, asked: &Asked) -> bool
+pub(crate) fn request_has_no_store(asked_directives: &Directives, asked: &Asked) -> bool
     requires { asked_directives.now ≡ occurrences_of asked.now.fields }
-    ensures { result ≡ has_no_store asked.now }
+    ensures { result ≡ request_has_no_store asked.now }
 {
     asked_directives.has(Directive::NoStore)
 }
@@ -163,12 +163,12 @@ fn no_cache_request_is_heeded(policy: Policy, asked_directives: &Directives, ask
 }
 
 /// What is awaited of the chosen response, which is stale: it, where it had a lifetime.
-fn awaited_of_chosen(
+fn awaited_for_chosen_response(
     alloc: Global,
     policy: Policy,
     chosen: Option<&Entry>,
 ) -> Result<Option<Awaited>, AllocError>
-    ensures { IfOk result (λ awaited. awaited ≡ awaited_of_chosen policy (option_copied chosen.entry)) }
+    ensures { IfOk result (λ awaited. awaited ≡ awaited_for_chosen_response policy (option_copied chosen.entry)) }
 {
     let Some(entry) = chosen else {
         return Ok(None);
@@ -182,7 +182,7 @@ fn awaited_of_chosen(
 }
 
 /// What a request could be sent of the answer to another, which this rule keeps from the chosen response.
-pub(crate) fn awaited_by_request(
+pub(crate) fn response_awaited_by_request(
     alloc: Global,
     policy: Policy,
     asked: &Asked,
@@ -191,7 +191,8 @@ pub(crate) fn awaited_by_request(
     chosen: Option<&Entry>,
 ) -> Result<Option<Awaited>, AllocError>
     requires { asked_directives.now ≡ occurrences_of asked.now.fields }
-    ensures { IfOk result (λ awaited. awaited ≡ awaited_by_rule policy (option_copied chosen.entry) asked.now rule) }
+    ensures { IfOk result
+        (λ awaited. awaited ≡ response_awaited_by_rule policy (option_copied chosen.entry) asked.now rule) }
 {
     if !is_get(asked)
         || (policy.waits_for_stale && no_cache_request_is_heeded(policy, asked_directives, asked))
@@ -202,7 +203,7 @@ pub(crate) fn awaited_by_request(
         return Ok(Some(Awaited::Missing));
     }
     if policy.waits_for_stale && is_staleness_rule(rule) {
-        awaited_of_chosen(alloc, policy, chosen)
+        awaited_for_chosen_response(alloc, policy, chosen)
     } else {
         Ok(None)
     }

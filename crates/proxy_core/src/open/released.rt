@@ -7,8 +7,8 @@ ghost use Rattle.std.specs.Prelude.{◌≡◌, ℕ, true, Some, if◌then◌else
 ghost use Rattle.std.specs.Ordering.{nat_cmp};
 ghost use Rattle.std.specs.BTreeSet.{contains};
 ghost use Rattle.proxy_core.specs.Leading.{is_released as is_free};
-ghost use Rattle.proxy_core.specs.Releases.{first_released_arrival, is_between_arrivals, may_be_released};
-ghost use Rattle.proxy_core.specs.Releases.{released_range_with, ReleasedArrivalsPassTest};
+ghost use Rattle.proxy_core.specs.Releases.{first_released_arrival, is_between_arrivals, arrival_may_be_released};
+ghost use Rattle.proxy_core.specs.Releases.{released_arrival_range_with, ReleasedArrivalsPassTest};
 ghost use Rattle.proxy_core.specs.Releases.{ReleasedStatesFirstReleasedArrival};
 ghost use Rattle.proxy_core.specs.Releases.{FirstReleasedIsNone, ReleasedRangeIsNotNarrowed, ReleasedNumbersCoverRange};
 ghost use Rattle.proxy_core.specs.Releases.{ReleasedRangeIsWidenedToSet};
@@ -52,8 +52,9 @@ impl Released {
     /// The exchange of this number may be released.
     pub(crate) fn enter(&mut self, stage: Stage, arrival: u64)
         ensures widened { ReleasedRangeIsNotNarrowed self.old self.new }
-        ensures entered { is_free stage ≡ true → may_be_released self.new arrival ≡ true }
-        ensures reach { self.new ≡ (if is_free stage then released_range_with arrival arrival self.old else self.old) }
+        ensures entered { is_free stage ≡ true → arrival_may_be_released self.new arrival ≡ true }
+        ensures reach { self.new
+            ≡ (if is_free stage then released_arrival_range_with arrival arrival self.old else self.old) }
     {
         if is_released(stage) {
             self.widen(arrival, arrival);
@@ -63,7 +64,7 @@ impl Released {
     /// The exchanges of these numbers may be released.
     pub(crate) fn enter_all(&mut self, arrivals: &BTreeSet<u64>)
         ensures widened { ReleasedRangeIsNotNarrowed self.old self.new }
-        ensures entered { (n : ℕ) → contains nat_cmp arrivals.now n ≡ true → may_be_released self.new n ≡ true }
+        ensures entered { (n : ℕ) → contains nat_cmp arrivals.now n ≡ true → arrival_may_be_released self.new n ≡ true }
         ensures reach { ReleasedRangeIsWidenedToSet arrivals.now self.old self.new }
     {
         if let Some(first) = arrivals.first() {
@@ -77,7 +78,7 @@ impl Released {
     fn widen(&mut self, first: u64, last: u64)
         ensures widened { ReleasedRangeIsNotNarrowed self.old self.new }
         ensures by { ReleasedNumbersCoverRange first last self.new }
-        ensures reach { self.new ≡ released_range_with first last self.old }
+        ensures reach { self.new ≡ released_arrival_range_with first last self.old }
     {
         match self.first {
             Some(other) => {
@@ -93,7 +94,7 @@ impl Released {
 
     /// Looks for the first of them.
     pub(crate) fn settle(&mut self, by_arrival: &BTreeMap<u64, Exchange>)
-        requires { ReleasedArrivalsPassTest (may_be_released self.old) by_arrival.now.entries }
+        requires { ReleasedArrivalsPassTest (arrival_may_be_released self.old) by_arrival.now.entries }
         ensures settled { ReleasedStatesFirstReleasedArrival self.new by_arrival.now.entries }
         ensures last { self.new.last ≡ self.old.last }
     {

@@ -7,10 +7,11 @@ ghost use Rattle.std.specs.BTreeMap.{get};
 ghost use Rattle.std.specs.BTreeSet.{contains};
 ghost use Rattle.std.specs.Bool.{OnFalse, OnTrue};
 ghost use Rattle.proxy_core.specs.declared.open.stage.Stage.TheVariants as staged;
-ghost use Rattle.proxy_core.specs.Waiters.{is_in_wait_index, set_contains, WaiterIsEntered, WaiterIsEnteredIf};
-ghost use Rattle.proxy_core.specs.Waiters.{WaiterIsRemoved, WaitersAreRemoved, WaitIndexesHaveSameMembers};
+ghost use Rattle.proxy_core.specs.Waiters.{arrival_is_in_wait_index, set_contains, ArrivalIsAddedIfWaiting};
+ghost use Rattle.proxy_core.specs.Waiters.{WaiterIsAddedIfSetExists};
+ghost use Rattle.proxy_core.specs.Waiters.{ArrivalIsRemovedIfWaiting, WaitersAreRemoved, WaitIndexesHaveSameMembers};
 ghost use Rattle.proxy_core.specs.Waiters.{WaitIndexHasNoEmptySet, OtherIdsHaveNoEmptyWaiterSet, IsEmptyWaitIndex};
-ghost use Rattle.proxy_core.specs.Waiters.{SetHoldsAllWaiters, SetIsNotEmpty, WaitersAreEntered};
+ghost use Rattle.proxy_core.specs.Waiters.{SetHoldsAllWaitersOfLeader, SetIsNotEmpty, WaitersAreEntered};
 
 use crate::open::stage::Stage;
 use std::alloc::{AllocError, Global};
@@ -46,7 +47,7 @@ impl WaitIndex {
 
     /// Enters an arrival, if its exchange waits. Out of memory changes nothing.
     pub(crate) fn enter(&mut self, stage: Stage, arrival: u64) -> Result<(), AllocError>
-        ensures ok { OnOk result (WaiterIsEntered stage arrival self.old self.new) }
+        ensures ok { OnOk result (ArrivalIsAddedIfWaiting stage arrival self.old self.new) }
         ensures err { OnErr result (WaitIndexesHaveSameMembers self.old self.new) }
         ensures trim { WaitIndexHasNoEmptySet self.old → WaitIndexHasNoEmptySet self.new }
     {
@@ -58,7 +59,7 @@ impl WaitIndex {
 
     /// Takes an arrival out, if its exchange waits. Nothing is allocated.
     pub(crate) fn remove_arrival(&mut self, stage: Stage, arrival: u64)
-        ensures left { WaiterIsRemoved stage arrival self.old self.new }
+        ensures left { ArrivalIsRemovedIfWaiting stage arrival self.old self.new }
         ensures trim { WaitIndexHasNoEmptySet self.old → WaitIndexHasNoEmptySet self.new }
     {
         match stage {
@@ -69,7 +70,7 @@ impl WaitIndex {
 
     /// Takes all out that wait for the exchange of an id. Nothing is allocated.
     pub(crate) fn take(&mut self, id: u64) -> Option<BTreeSet<u64>>
-        ensures all { SetHoldsAllWaiters result id self.old }
+        ensures all { SetHoldsAllWaitersOfLeader result id self.old }
         ensures emptied { WaitersAreRemoved id self.old self.new }
         ensures trim { WaitIndexHasNoEmptySet self.old → WaitIndexHasNoEmptySet self.new }
     {
@@ -103,7 +104,7 @@ impl WaitIndex {
         requires { SetIsNotEmpty arrivals }
         ensures members { IfOk result (λ all. SetIsNotEmpty all) }
         ensures all { IfOk result (λ all. (m : ℕ) → contains nat_cmp all m ≡ (contains nat_cmp arrivals m
-            || is_in_wait_index self.now id m)) }
+            || arrival_is_in_wait_index self.now id m)) }
     {
         let mut all = arrivals;
         if let Some(others) = self.arrivals.get(&id) {
@@ -113,7 +114,7 @@ impl WaitIndex {
     }
 
     fn insert(&mut self, id: u64, arrival: u64) -> Result<(), AllocError>
-        ensures ok { OnOk result (WaiterIsEntered (staged.Waiting id) arrival self.old self.new) }
+        ensures ok { OnOk result (ArrivalIsAddedIfWaiting (staged.Waiting id) arrival self.old self.new) }
         ensures err { OnErr result (WaitIndexesHaveSameMembers self.old self.new) }
         ensures trim { WaitIndexHasNoEmptySet self.old → WaitIndexHasNoEmptySet self.new }
     {
@@ -128,7 +129,7 @@ impl WaitIndex {
 
     /// Enters an arrival where others wait for that exchange, and says whether some do.
     fn insert_beside(&mut self, id: u64, arrival: u64) -> Result<bool, AllocError>
-        ensures ok { IfOk result (λ has. WaiterIsEnteredIf has id arrival self.old self.new) }
+        ensures ok { IfOk result (λ has. WaiterIsAddedIfSetExists has id arrival self.old self.new) }
         ensures err { OnErr result (WaitIndexesHaveSameMembers self.old self.new) }
         ensures trim { WaitIndexHasNoEmptySet self.old → WaitIndexHasNoEmptySet self.new }
     {
@@ -142,7 +143,7 @@ impl WaitIndex {
     }
 
     fn remove(&mut self, id: u64, arrival: u64)
-        ensures left { WaiterIsRemoved (staged.Waiting id) arrival self.old self.new }
+        ensures left { ArrivalIsRemovedIfWaiting (staged.Waiting id) arrival self.old self.new }
         ensures trim { WaitIndexHasNoEmptySet self.old → WaitIndexHasNoEmptySet self.new }
     {
         if self.remove_from_index(id, arrival) {
@@ -152,8 +153,8 @@ impl WaitIndex {
 
     /// Takes an arrival out, and says whether it was the last that waited for that exchange.
     fn remove_from_index(&mut self, id: u64, arrival: u64) -> bool
-        ensures left { WaiterIsRemoved (staged.Waiting id) arrival self.old self.new }
-        ensures last { OnTrue result ((m : ℕ) → is_in_wait_index self.new id m ≡ false) }
+        ensures left { ArrivalIsRemovedIfWaiting (staged.Waiting id) arrival self.old self.new }
+        ensures last { OnTrue result ((m : ℕ) → arrival_is_in_wait_index self.new id m ≡ false) }
         ensures trim_beside { WaitIndexHasNoEmptySet self.old → OtherIdsHaveNoEmptyWaiterSet id self.new }
         ensures trim { WaitIndexHasNoEmptySet self.old → OnFalse result (WaitIndexHasNoEmptySet self.new) }
     {

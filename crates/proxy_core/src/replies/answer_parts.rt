@@ -7,14 +7,15 @@ ghost use Rattle.hx_framing.specs.Text.{response_text};
 ghost use Rattle.hx_hop.specs.Answering.{answered_of};
 ghost use Rattle.hx_validate.specs.Ranges.{PartLiesWithinTotal};
 ghost use Rattle.hx_validate.specs.declared.ranges.RangeAnswer.TheVariants.{Part, Unsatisfiable};
-ghost use Rattle.proxy_core.specs.Abouts.{about_answer_in_range};
-ghost use Rattle.proxy_core.specs.Replies.{answer_in_range_text, range_of_answer, content_unless_head, is_head};
+ghost use Rattle.proxy_core.specs.Abouts.{report_of_answer_cut_to_range};
+ghost use Rattle.proxy_core.specs.Replies.{text_of_answer_or_its_range, part_of_answer_to_send, content_unless_head};
+ghost use Rattle.proxy_core.specs.Replies.{is_head};
 ghost use Rattle.proxy_core.specs.Replies.{ttl_of_passed_answer};
 
 use crate::replies::origin_answer::OriginAnswer;
 use crate::replies::reply_text::{
-    PassedAnswerInfo, about_in_place_of_answer, content_unless_head, fields_in_place_of_answer,
-    is_head, whole_answer_text,
+    PassedAnswerInfo, content_unless_head, fields_in_place_of_answer, is_head,
+    report_in_place_of_answer, whole_answer_text,
 };
 use crate::replies::stored_reply::{
     ReplyTextAndAbout, STATUS_PARTIAL_CONTENT, STATUS_RANGE_NOT_SATISFIABLE,
@@ -31,9 +32,9 @@ use hx_validate::{
 use std::alloc::{AllocError, Global};
 
 /// What of an answer is sent to its client, over a line of this policy.
-fn range_of_answer(answer: &OriginAnswer<'_>, head: &Answered, policy: Policy) -> RangeAnswer
+fn part_of_answer_to_send(answer: &OriginAnswer<'_>, head: &Answered, policy: Policy) -> RangeAnswer
     requires { head.now ≡ answered_of answer.now.response.now answer.now.response_time }
-    ensures answer { result ≡ range_of_answer policy answer.now.exchange.now answer.now.response.now
+    ensures answer { result ≡ part_of_answer_to_send policy answer.now.exchange.now answer.now.response.now
         answer.now.response_time }
     ensures part { PartLiesWithinTotal result (length answer.now.response.now.content) }
 {
@@ -78,9 +79,10 @@ fn part_text(
     requires within { last < length answer.now.response.now.content }
     requires ttl { shown.ttl ≡ ttl_of_passed_answer shown.policy answer.now.exchange.now head.now.status
         head.now.fields answer.now.response_time shown.stored }
-    ensures text { IfOk result (λ sent. sent.bytes ≡ answer_in_range_text shown.policy name.now answer.now.exchange.now
+    ensures text { IfOk result
+        (λ sent. sent.bytes ≡ text_of_answer_or_its_range shown.policy name.now answer.now.exchange.now
         answer.now.response.now answer.now.response_time shown.stored shown.rule (Part first last)) }
-    ensures about { IfOk result (λ sent. sent.about ≡ about_answer_in_range shown.policy answer.now.exchange.now
+    ensures about { IfOk result (λ sent. sent.about ≡ report_of_answer_cut_to_range shown.policy answer.now.exchange.now
         answer.now.response.now answer.now.response_time shown.stored shown.rule
         (Part first last)) }
 {
@@ -95,7 +97,7 @@ fn part_text(
     let asked = &answer.exchange.asked;
     let bytes = text_in_place(alloc, asked, STATUS_PARTIAL_CONTENT, &lines, part)?;
     let sent = content_unless_head(is_head(asked), part);
-    let about = about_in_place_of_answer(answer, head, shown, STATUS_PARTIAL_CONTENT, sent);
+    let about = report_in_place_of_answer(answer, head, shown, STATUS_PARTIAL_CONTENT, sent);
     Ok(ReplyTextAndAbout { bytes, about })
 }
 
@@ -110,9 +112,10 @@ fn unsatisfied_text(
     requires head { head.now ≡ answered_of answer.now.response.now answer.now.response_time }
     requires ttl { shown.ttl ≡ ttl_of_passed_answer shown.policy answer.now.exchange.now head.now.status
         head.now.fields answer.now.response_time shown.stored }
-    ensures text { IfOk result (λ sent. sent.bytes ≡ answer_in_range_text shown.policy name.now answer.now.exchange.now
+    ensures text { IfOk result
+        (λ sent. sent.bytes ≡ text_of_answer_or_its_range shown.policy name.now answer.now.exchange.now
         answer.now.response.now answer.now.response_time shown.stored shown.rule Unsatisfiable) }
-    ensures about { IfOk result (λ sent. sent.about ≡ about_answer_in_range shown.policy answer.now.exchange.now
+    ensures about { IfOk result (λ sent. sent.about ≡ report_of_answer_cut_to_range shown.policy answer.now.exchange.now
         answer.now.response.now answer.now.response_time shown.stored shown.rule
         Unsatisfiable) }
 {
@@ -126,12 +129,12 @@ fn unsatisfied_text(
     let asked = &answer.exchange.asked;
     let bytes = text_in_place(alloc, asked, STATUS_RANGE_NOT_SATISFIABLE, &lines, &[])?;
     let sent = content_unless_head(is_head(asked), &[]);
-    let about = about_in_place_of_answer(answer, head, shown, STATUS_RANGE_NOT_SATISFIABLE, sent);
+    let about = report_in_place_of_answer(answer, head, shown, STATUS_RANGE_NOT_SATISFIABLE, sent);
     Ok(ReplyTextAndAbout { bytes, about })
 }
 
 /// An answer of the origin, as much of it as its client asked for: its head is handed in as rules see it.
-pub(crate) fn answer_in_range_text(
+pub(crate) fn text_of_answer_or_its_range(
     alloc: Global,
     name: &str,
     answer: &OriginAnswer<'_>,
@@ -141,14 +144,17 @@ pub(crate) fn answer_in_range_text(
     requires head { head.now ≡ answered_of answer.now.response.now answer.now.response_time }
     requires ttl { shown.ttl ≡ ttl_of_passed_answer shown.policy answer.now.exchange.now head.now.status
         head.now.fields answer.now.response_time shown.stored }
-    ensures text { IfOk result (λ sent. sent.bytes ≡ answer_in_range_text shown.policy name.now answer.now.exchange.now
+    ensures text { IfOk result
+        (λ sent. sent.bytes ≡ text_of_answer_or_its_range shown.policy name.now answer.now.exchange.now
         answer.now.response.now answer.now.response_time shown.stored shown.rule
-        (range_of_answer shown.policy answer.now.exchange.now answer.now.response.now answer.now.response_time)) }
-    ensures about { IfOk result (λ sent. sent.about ≡ about_answer_in_range shown.policy answer.now.exchange.now
+        (part_of_answer_to_send shown.policy answer.now.exchange.now answer.now.response.now
+        answer.now.response_time)) }
+    ensures about { IfOk result (λ sent. sent.about ≡ report_of_answer_cut_to_range shown.policy answer.now.exchange.now
         answer.now.response.now answer.now.response_time shown.stored shown.rule
-        (range_of_answer shown.policy answer.now.exchange.now answer.now.response.now answer.now.response_time)) }
+        (part_of_answer_to_send shown.policy answer.now.exchange.now answer.now.response.now
+        answer.now.response_time)) }
 {
-    match range_of_answer(answer, head, shown.policy) {
+    match part_of_answer_to_send(answer, head, shown.policy) {
         RangeAnswer::Whole => whole_answer_text(alloc, name, answer, head, shown),
         RangeAnswer::Part(first, last) => {
             part_text(alloc, name, answer, head, shown, first, last)

@@ -4,8 +4,8 @@ ghost use Rattle.hx_directives.specs.Occurrences.{occurrences_of};
 ghost use Rattle.hx_framing.specs.Text.{response_text};
 ghost use Rattle.hx_hop.specs.Answering.{answered_of};
 ghost use Rattle.hx_hop.specs.Moments.{date_text_of};
-ghost use Rattle.proxy_core.specs.Abouts.{about_answer, about_in_place_of_answer, about_passed_answer};
-ghost use Rattle.proxy_core.specs.Abouts.{about_answer_passed_whole, about_refusal_reply};
+ghost use Rattle.proxy_core.specs.Abouts.{report_of_answer_sent, report_in_place_of_answer, report_of_passed_answer};
+ghost use Rattle.proxy_core.specs.Abouts.{report_of_answer_passed_whole, report_of_refusal_reply};
 ghost use Rattle.proxy_core.specs.Replies.{passed_answer_text, fields_of_passed_answer, length_of_passed_answer};
 ghost use Rattle.proxy_core.specs.Replies.{whole_answer_text, client_wants_304_for_answer, fields_in_place_of_answer};
 ghost use Rattle.proxy_core.specs.Replies.{not_modified_answer_text};
@@ -14,12 +14,12 @@ ghost use Rattle.proxy_core.specs.Replies.{fields_without_hidden_tags};
 ghost use Rattle.proxy_core.specs.Replies.{ttl_of_passed_answer, refusal_reply_text, fields_of_purge, purge_reply_text};
 ghost use Rattle.proxy_core.specs.Replies.{fields_of_refusal, content_unless_head, is_head, length_unless_forbidden};
 
-use crate::replies::answer_parts::answer_in_range_text;
+use crate::replies::answer_parts::text_of_answer_or_its_range;
 use crate::replies::origin_answer::OriginAnswer;
 use crate::replies::stored_reply::ReplyTextAndAbout;
 use http::Method;
 use hx_age::{Times, current_age, ttl};
-use hx_allow::RequestRoute;
+use hx_allow::RouteOverLine;
 use hx_directives::Directives;
 use hx_fields::{Bytes, Fields};
 use hx_framing::{Response, write_response};
@@ -28,7 +28,7 @@ use hx_policy::Policy;
 use hx_reuse::{lifetime_under_policy, withholds_conditions};
 use hx_status::{Cause, Detail, How, Status, StatusAndReason, Told, member, refusal};
 use hx_storable::StoreRule;
-use hx_validate::{answer_not_modified, client_wants_304_for_answer};
+use hx_validate::{client_wants_304_for_answer, not_modified_fields_of_answer};
 use itoa::Buffer;
 use std::alloc::{AllocError, Global};
 
@@ -93,7 +93,7 @@ pub(crate) fn ttl_of_passed_answer(
 }
 
 /// The word of a request that goes past the store for its cookies.
-fn detail_of_bypassed_store(route: RequestRoute) -> Option<Detail>
+fn detail_of_bypassed_store(route: RouteOverLine) -> Option<Detail>
     ensures { result ≡ detail_of_bypassed_store route }
 {
     if route.past_store {
@@ -127,13 +127,13 @@ fn cache_status_of_answer(
 }
 
 /// What is told of a response that is sent under a status, with this content, where the origin answered.
-fn about_answer(
+fn report_of_answer_sent(
     answer: &OriginAnswer<'_>,
     status: u16,
     content: &[u8],
     shown: Status,
 ) -> StatusAndReason
-    ensures { result ≡ about_answer answer.now.exchange.now status content.now shown }
+    ensures { result ≡ report_of_answer_sent answer.now.exchange.now status content.now shown }
 {
     StatusAndReason {
         status,
@@ -144,7 +144,7 @@ fn about_answer(
 }
 
 /// What is told of the answer itself, of which this content is sent.
-fn about_answer_passed_whole(
+fn report_of_answer_passed_whole(
     answer: &OriginAnswer<'_>,
     head: &Answered,
     shown: PassedAnswerInfo,
@@ -155,15 +155,15 @@ fn about_answer_passed_whole(
     requires head { head.now ≡ answered_of answer.now.response.now answer.now.response_time }
     requires ttl { shown.ttl ≡ ttl_of_passed_answer shown.policy answer.now.exchange.now head.now.status
         head.now.fields answer.now.response_time shown.stored }
-    ensures { result ≡ about_answer_passed_whole shown.policy answer.now.exchange.now answer.now.response.now
+    ensures { result ≡ report_of_answer_passed_whole shown.policy answer.now.exchange.now answer.now.response.now
         answer.now.response_time shown.stored shown.rule }
 {
     let status = cache_status_of_answer(answer, head, shown, None);
-    about_answer(answer, answer.response.status, content, status)
+    report_of_answer_sent(answer, answer.response.status, content, status)
 }
 
 /// What is told of another response that is sent in its place.
-pub(crate) fn about_in_place_of_answer(
+pub(crate) fn report_in_place_of_answer(
     answer: &OriginAnswer<'_>,
     head: &Answered,
     shown: PassedAnswerInfo,
@@ -173,11 +173,11 @@ pub(crate) fn about_in_place_of_answer(
     requires head { head.now ≡ answered_of answer.now.response.now answer.now.response_time }
     requires ttl { shown.ttl ≡ ttl_of_passed_answer shown.policy answer.now.exchange.now head.now.status
         head.now.fields answer.now.response_time shown.stored }
-    ensures { result ≡ about_in_place_of_answer shown.policy answer.now.exchange.now answer.now.response.now
+    ensures { result ≡ report_in_place_of_answer shown.policy answer.now.exchange.now answer.now.response.now
         answer.now.response_time shown.stored shown.rule status content.now }
 {
     let shown = cache_status_of_answer(answer, head, shown, Some(head.status));
-    about_answer(answer, status, content, shown)
+    report_of_answer_sent(answer, status, content, shown)
 }
 
 /// Takes the tags out, over a line that hides them.
@@ -258,7 +258,7 @@ pub(crate) fn whole_answer_text(
         head.now.fields answer.now.response_time shown.stored }
     ensures text { IfOk result (λ sent. sent.bytes ≡ whole_answer_text shown.policy name.now answer.now.exchange.now
         answer.now.response.now answer.now.response_time shown.stored shown.rule) }
-    ensures about { IfOk result (λ sent. sent.about ≡ about_answer_passed_whole shown.policy answer.now.exchange.now
+    ensures about { IfOk result (λ sent. sent.about ≡ report_of_answer_passed_whole shown.policy answer.now.exchange.now
         answer.now.response.now answer.now.response_time shown.stored shown.rule) }
 {
     let asked = &answer.exchange.asked;
@@ -268,7 +268,7 @@ pub(crate) fn whole_answer_text(
     let length = length_of_passed_answer(to_head, response);
     let content = content_unless_head(to_head, response.content.as_slice());
     let bytes = write_response(alloc, response.status, &lines, length, asked.close, content)?;
-    let about = about_answer_passed_whole(answer, head, shown, content);
+    let about = report_of_answer_passed_whole(answer, head, shown, content);
     Ok(ReplyTextAndAbout { bytes, about })
 }
 
@@ -285,13 +285,13 @@ fn not_modified_answer_text(
         head.now.fields answer.now.response_time shown.stored }
     ensures text { IfOk result (λ sent. sent.bytes ≡ not_modified_answer_text shown.policy name.now
         answer.now.exchange.now answer.now.response.now answer.now.response_time shown.stored shown.rule) }
-    ensures about { IfOk result (λ sent. sent.about ≡ about_in_place_of_answer shown.policy answer.now.exchange.now
+    ensures about { IfOk result (λ sent. sent.about ≡ report_in_place_of_answer shown.policy answer.now.exchange.now
         answer.now.response.now answer.now.response_time shown.stored shown.rule 304 []) }
 {
-    let own = answer_not_modified(alloc, &head.fields)?;
+    let own = not_modified_fields_of_answer(alloc, &head.fields)?;
     let lines = fields_in_place_of_answer(alloc, name, answer, head, shown, own)?;
     let bytes = write_response(alloc, 304, &lines, None, answer.exchange.asked.close, &[])?;
-    let about = about_in_place_of_answer(answer, head, shown, 304, &[]);
+    let about = report_in_place_of_answer(answer, head, shown, 304, &[]);
     Ok(ReplyTextAndAbout { bytes, about })
 }
 
@@ -319,13 +319,13 @@ pub(crate) fn passed_answer_text(
         head.now.fields answer.now.response_time shown.stored }
     ensures text { IfOk result (λ sent. sent.bytes ≡ passed_answer_text shown.policy name.now answer.now.exchange.now
         answer.now.response.now answer.now.response_time shown.stored shown.rule) }
-    ensures about { IfOk result (λ sent. sent.about ≡ about_passed_answer shown.policy answer.now.exchange.now
+    ensures about { IfOk result (λ sent. sent.about ≡ report_of_passed_answer shown.policy answer.now.exchange.now
         answer.now.response.now answer.now.response_time shown.stored shown.rule) }
 {
     if client_has_the_answer(answer, head, shown.policy) {
         not_modified_answer_text(alloc, name, answer, head, shown)
     } else {
-        answer_in_range_text(alloc, name, answer, head, shown)
+        text_of_answer_or_its_range(alloc, name, answer, head, shown)
     }
 }
 
@@ -350,7 +350,7 @@ pub fn refused(
 ) -> Result<ReplyTextAndAbout, AllocError>
     requires { now < 253_402_300_800 }
     ensures text { IfOk result (λ sent. sent.bytes ≡ refusal_reply_text (date_text_of now) cause close head) }
-    ensures about { IfOk result (λ sent. sent.about ≡ about_refusal_reply cause head) }
+    ensures about { IfOk result (λ sent. sent.about ≡ report_of_refusal_reply cause head) }
 {
     let (status, text) = refusal(alloc, cause)?;
     let lines = fields_of_refusal(alloc, now, text.as_slice())?;

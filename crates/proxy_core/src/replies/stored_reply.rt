@@ -1,30 +1,30 @@
 //! The bytes of a stored response that is sent.
 ghost use Rattle.std.specs.Prelude.{◌≡◌, ◌≤◌, ◌<◌, ◌+◌, [], IfOk, Some, length, slice_range};
-ghost use Rattle.hx_validate.specs.Ranges.{fields_of_206, response_in_form_of, response_as_range_or_whole};
+ghost use Rattle.hx_validate.specs.Ranges.{fields_of_206, response_as_range_answer, response_as_range_or_whole};
 ghost use Rattle.hx_validate.specs.declared.ranges.RangeAnswer.TheVariants.{Part, Unsatisfiable};
 ghost use Rattle.hx_age.specs.Age.{age_of};
 ghost use Rattle.hx_framing.specs.Text.{response_text};
-ghost use Rattle.proxy_core.specs.Abouts.{about_stored_response_sent, about_stored};
-ghost use Rattle.proxy_core.specs.Outcomes.{forwarded_status_info, collapsed_status_info};
+ghost use Rattle.proxy_core.specs.Abouts.{report_of_stored_response_sent, report_of_stored_reply};
+ghost use Rattle.proxy_core.specs.Outcomes.{sent_after_forward_status_info, collapsed_status_info};
 ghost use Rattle.proxy_core.specs.Replies.{cache_status_of_sent, stored_reply_text, whole_stored_text};
 ghost use Rattle.proxy_core.specs.Replies.{not_modified_text};
 ghost use Rattle.proxy_core.specs.Replies.{content_unless_head, fields_of_sent_response, fields_with_age_and_status};
-ghost use Rattle.proxy_core.specs.Replies.{fwd_status_of, is_head, text_of_stored_in_form};
-ghost use Rattle.proxy_core.specs.Validating.{without_cookies};
+ghost use Rattle.proxy_core.specs.Replies.{fwd_status_of, is_head, text_of_stored_sent_as};
+ghost use Rattle.proxy_core.specs.Validating.{without_set_cookie_if};
 
 use crate::open::exchange::Exchange;
 use crate::replies::reply_text::{content_unless_head, is_head, length_unless_forbidden};
 use hx_age::{current_age, ttl};
 use hx_fields::{Bytes, Fields};
-use hx_framing::{AddedLine, ResponseLines, write_response_with_added_lines};
+use hx_framing::{AddedLine, LinesAfterStatusLine, write_response_with_added_lines};
 use hx_hop::Asked;
 use hx_policy::Policy;
 use hx_reuse::lifetime_of_stored_response;
 use hx_status::{Detail, How, Status, StatusAndReason, Told, member};
 use hx_store::Entry;
 use hx_validate::{
-    RangeAnswer, client_wants_304, fields_of_206_part, head_leaves_room, not_modified,
-    range_answer, unsatisfied_fields,
+    RangeAnswer, client_wants_304, fields_of_206_part, head_leaves_room, not_modified_fields,
+    range_answer, unsatisfiable_range_fields,
 };
 use itoa::Buffer;
 use std::alloc::{AllocError, Global};
@@ -37,7 +37,7 @@ pub(crate) const STATUS_RANGE_NOT_SATISFIABLE: u16 = 416;
 
 /// What Cache-Status tells of a stored response that is sent, beside the response itself (RFC 9211, section 2).
 #[derive(Clone, Copy)]
-pub(crate) struct CacheStatusInfo {
+pub(crate) struct StoredCacheStatusInfo {
     /// That of the line by which its request is allowed.
     pub(crate) policy: Policy,
     pub(crate) how: How,
@@ -50,7 +50,7 @@ pub(crate) struct CacheStatusInfo {
     pub(crate) origin_line: Option<u16>,
 }
 
-impl CacheStatusInfo {
+impl StoredCacheStatusInfo {
     /// It is sent after its request went forward.
     pub(crate) fn forwarded(
         policy: Policy,
@@ -58,9 +58,9 @@ impl CacheStatusInfo {
         came: Option<u16>,
         detail: Option<Detail>,
     ) -> Self
-        ensures { result ≡ forwarded_status_info policy exchange.now came detail }
+        ensures { result ≡ sent_after_forward_status_info policy exchange.now came detail }
     {
-        CacheStatusInfo {
+        StoredCacheStatusInfo {
             policy,
             how: How::Fwd(exchange.rule),
             came,
@@ -74,7 +74,7 @@ impl CacheStatusInfo {
     pub(crate) fn collapsed(policy: Policy, exchange: &Exchange) -> Self
         ensures { result ≡ collapsed_status_info policy exchange.now }
     {
-        CacheStatusInfo {
+        StoredCacheStatusInfo {
             policy,
             how: How::Fwd(exchange.rule),
             came: None,
@@ -100,7 +100,7 @@ pub(crate) struct StoredReply<'a> {
     pub(crate) name: &'a str,
     pub(crate) entry: &'a Entry,
     pub(crate) asked: &'a Asked,
-    pub(crate) info: CacheStatusInfo,
+    pub(crate) info: StoredCacheStatusInfo,
     /// When it is sent, in Unix seconds.
     pub(crate) sent_at: u64,
 }
@@ -125,7 +125,7 @@ impl StoredReply<'_> {
             ≡ stored_reply_text self.now.name.now self.now.entry.now self.now.sent_at self.now.info
             self.now.asked.now) }
         ensures about { IfOk result (λ sent. sent.about
-            ≡ about_stored self.now.entry.now self.now.sent_at self.now.info self.now.asked.now) }
+            ≡ report_of_stored_reply self.now.entry.now self.now.sent_at self.now.info self.now.asked.now) }
     {
         if client_wants_304(self.asked, self.entry) {
             self.not_modified_text(alloc)
@@ -138,12 +138,12 @@ impl StoredReply<'_> {
 
     /// What the request asks for of it, for a range or not.
     fn text_in_range(&self, alloc: Global) -> Result<ReplyTextAndAbout, AllocError>
-        ensures text { IfOk result (λ sent. sent.bytes ≡ text_of_stored_in_form self.now.name.now
+        ensures text { IfOk result (λ sent. sent.bytes ≡ text_of_stored_sent_as self.now.name.now
             (response_as_range_or_whole self.now.asked.now self.now.entry.now) self.now.entry.now self.now.sent_at
             self.now.info
             self.now.asked.now) }
         ensures about { IfOk result (λ sent. sent.about
-            ≡ about_stored_response_sent (response_as_range_or_whole self.now.asked.now self.now.entry.now).status
+            ≡ report_of_stored_response_sent (response_as_range_or_whole self.now.asked.now self.now.entry.now).status
             (content_unless_head (is_head self.now.asked.now)
             (response_as_range_or_whole self.now.asked.now self.now.entry.now).content)
             self.now.entry.now self.now.sent_at self.now.info) }
@@ -164,13 +164,14 @@ impl StoredReply<'_> {
     ) -> Result<ReplyTextAndAbout, AllocError>
         requires order { first ≤ last }
         requires within { last < length self.now.entry.now.content }
-        ensures text { IfOk result (λ sent. sent.bytes ≡ text_of_stored_in_form self.now.name.now
-            (response_in_form_of (Part first last) self.now.entry.now) self.now.entry.now self.now.sent_at self.now.info
+        ensures text { IfOk result (λ sent. sent.bytes ≡ text_of_stored_sent_as self.now.name.now
+            (response_as_range_answer (Part first last) self.now.entry.now) self.now.entry.now self.now.sent_at
+            self.now.info
             self.now.asked.now) }
         ensures about { IfOk result (λ sent. sent.about
-            ≡ about_stored_response_sent (response_in_form_of (Part first last) self.now.entry.now).status
+            ≡ report_of_stored_response_sent (response_as_range_answer (Part first last) self.now.entry.now).status
             (content_unless_head (is_head self.now.asked.now)
-            (response_in_form_of (Part first last) self.now.entry.now).content)
+            (response_as_range_answer (Part first last) self.now.entry.now).content)
             self.now.entry.now self.now.sent_at self.now.info) }
     {
         let fields = fields_of_206(alloc, self.entry, first, last)?;
@@ -193,13 +194,13 @@ impl StoredReply<'_> {
         requires within { last < length self.now.entry.now.content }
         ensures text { IfOk result (λ sent. sent.bytes ≡ response_text 206
             (fields_of_sent_response self.now.name.now 206
-            (without_cookies self.now.info.policy.removes_cookies fields)
+            (without_set_cookie_if self.now.info.policy.removes_set_cookie fields)
             self.now.entry.now self.now.sent_at self.now.info)
             (Some (length (slice_range self.now.entry.now.content first (last + 1)))) self.now.asked.now.close
             (content_unless_head (is_head self.now.asked.now)
             (slice_range self.now.entry.now.content first (last + 1)))) }
         ensures about { IfOk result (λ sent. sent.about
-            ≡ about_stored_response_sent 206 (content_unless_head (is_head self.now.asked.now)
+            ≡ report_of_stored_response_sent 206 (content_unless_head (is_head self.now.asked.now)
             (slice_range self.now.entry.now.content first (last + 1)))
             self.now.entry.now self.now.sent_at self.now.info) }
     {
@@ -210,16 +211,17 @@ impl StoredReply<'_> {
 
     /// That none of the bytes which are asked for is there, where its head has room for the line that tells it.
     fn unsatisfied_text(&self, alloc: Global) -> Result<ReplyTextAndAbout, AllocError>
-        ensures text { IfOk result (λ sent. sent.bytes ≡ text_of_stored_in_form self.now.name.now
-            (response_in_form_of Unsatisfiable self.now.entry.now) self.now.entry.now self.now.sent_at self.now.info
+        ensures text { IfOk result (λ sent. sent.bytes ≡ text_of_stored_sent_as self.now.name.now
+            (response_as_range_answer Unsatisfiable self.now.entry.now) self.now.entry.now self.now.sent_at
+            self.now.info
             self.now.asked.now) }
         ensures about { IfOk result (λ sent. sent.about
-            ≡ about_stored_response_sent (response_in_form_of Unsatisfiable self.now.entry.now).status
+            ≡ report_of_stored_response_sent (response_as_range_answer Unsatisfiable self.now.entry.now).status
             (content_unless_head (is_head self.now.asked.now)
-            (response_in_form_of Unsatisfiable self.now.entry.now).content)
+            (response_as_range_answer Unsatisfiable self.now.entry.now).content)
             self.now.entry.now self.now.sent_at self.now.info) }
     {
-        let fields = unsatisfied_fields(alloc, self.entry)?;
+        let fields = unsatisfiable_range_fields(alloc, self.entry)?;
         if head_leaves_room(&fields) {
             self.text_of_416(alloc, fields)
         } else {
@@ -231,11 +233,11 @@ impl StoredReply<'_> {
     fn text_of_416(&self, alloc: Global, fields: Fields) -> Result<ReplyTextAndAbout, AllocError>
         ensures text { IfOk result (λ sent. sent.bytes ≡ response_text 416
             (fields_of_sent_response self.now.name.now 416
-            (without_cookies self.now.info.policy.removes_cookies fields)
+            (without_set_cookie_if self.now.info.policy.removes_set_cookie fields)
             self.now.entry.now self.now.sent_at self.now.info) (Some 0) self.now.asked.now.close
             (content_unless_head (is_head self.now.asked.now) [])) }
         ensures about { IfOk result (λ sent. sent.about
-            ≡ about_stored_response_sent 416 (content_unless_head (is_head self.now.asked.now) [])
+            ≡ report_of_stored_response_sent 416 (content_unless_head (is_head self.now.asked.now) [])
             self.now.entry.now self.now.sent_at self.now.info) }
     {
         self.written_in_form(alloc, STATUS_RANGE_NOT_SATISFIABLE, fields, &[])
@@ -251,11 +253,11 @@ impl StoredReply<'_> {
     ) -> Result<ReplyTextAndAbout, AllocError>
         ensures text { IfOk result (λ sent. sent.bytes ≡ response_text status
             (fields_of_sent_response self.now.name.now status
-            (without_cookies self.now.info.policy.removes_cookies fields)
+            (without_set_cookie_if self.now.info.policy.removes_set_cookie fields)
             self.now.entry.now self.now.sent_at self.now.info) (Some (length content.now)) self.now.asked.now.close
             (content_unless_head (is_head self.now.asked.now) content.now)) }
         ensures about { IfOk result (λ sent. sent.about
-            ≡ about_stored_response_sent status (content_unless_head (is_head self.now.asked.now) content.now)
+            ≡ report_of_stored_response_sent status (content_unless_head (is_head self.now.asked.now) content.now)
             self.now.entry.now self.now.sent_at self.now.info) }
     {
         let length = Some(content.len() as u64);
@@ -267,9 +269,9 @@ impl StoredReply<'_> {
 
     /// Takes out the lines of Set-Cookie, over a line that removes them.
     fn remove_cookies(&self, fields: &mut Fields)
-        ensures { fields.new ≡ without_cookies self.now.info.policy.removes_cookies fields.old }
+        ensures { fields.new ≡ without_set_cookie_if self.now.info.policy.removes_set_cookie fields.old }
     {
-        if self.info.policy.removes_cookies {
+        if self.info.policy.removes_set_cookie {
             fields.remove_named(b"Set-Cookie");
         }
     }
@@ -279,14 +281,14 @@ impl StoredReply<'_> {
         ensures text { IfOk result (λ sent. sent.bytes ≡ whole_stored_text self.now.name.now self.now.entry.now
             self.now.sent_at self.now.info self.now.asked.now) }
         ensures about { IfOk result (λ sent. sent.about
-            ≡ about_stored_response_sent self.now.entry.now.status
+            ≡ report_of_stored_response_sent self.now.entry.now.status
             (content_unless_head (is_head self.now.asked.now) self.now.entry.now.content)
             self.now.entry.now self.now.sent_at self.now.info) }
     {
         let entry = self.entry;
         let length = length_unless_forbidden(entry.status, Some(entry.content.len() as u64));
         let content = content_unless_head(is_head(self.asked), entry.content.as_slice());
-        if self.info.policy.removes_cookies && entry.fields.has(b"Set-Cookie") {
+        if self.info.policy.removes_set_cookie && entry.fields.has(b"Set-Cookie") {
             let mut fields = entry.fields.copy(alloc)?;
             fields.remove_named(b"Set-Cookie");
             return self.written(alloc, entry.status, &fields, length, content);
@@ -298,9 +300,9 @@ impl StoredReply<'_> {
         ensures text { IfOk result (λ sent. sent.bytes ≡ not_modified_text self.now.name.now self.now.entry.now
             self.now.sent_at self.now.info self.now.asked.now) }
         ensures about { IfOk result (λ sent. sent.about
-            ≡ about_stored_response_sent 304 [] self.now.entry.now self.now.sent_at self.now.info) }
+            ≡ report_of_stored_response_sent 304 [] self.now.entry.now self.now.sent_at self.now.info) }
     {
-        let fields = not_modified(alloc, self.entry)?;
+        let fields = not_modified_fields(alloc, self.entry)?;
         self.written_with(alloc, 304, &fields, None, &[])
     }
 
@@ -338,7 +340,7 @@ impl StoredReply<'_> {
             (fields_of_sent_response self.now.name.now status fields.now
             self.now.entry.now self.now.sent_at self.now.info) length self.now.asked.now.close content.now) }
         ensures about { IfOk result (λ sent. sent.about
-            ≡ about_stored_response_sent status content.now self.now.entry.now self.now.sent_at self.now.info) }
+            ≡ report_of_stored_response_sent status content.now self.now.entry.now self.now.sent_at self.now.info) }
     {
         if self.info.policy.hides_tags && fields.has(b"Cache-Tag") {
             let mut others = fields.copy(alloc)?;
@@ -362,7 +364,7 @@ impl StoredReply<'_> {
             (fields_with_age_and_status self.now.name.now status fields.now
             self.now.entry.now self.now.sent_at self.now.info) length self.now.asked.now.close content.now) }
         ensures about { IfOk result (λ sent. sent.about
-            ≡ about_stored_response_sent status content.now self.now.entry.now self.now.sent_at self.now.info) }
+            ≡ report_of_stored_response_sent status content.now self.now.entry.now self.now.sent_at self.now.info) }
     {
         let entry = self.entry;
         let age = current_age(&entry.times, self.sent_at);
@@ -379,7 +381,7 @@ impl StoredReply<'_> {
                 value: member.as_slice(),
             },
         ];
-        let lines = ResponseLines {
+        let lines = LinesAfterStatusLine {
             fields,
             added: &added,
             length,

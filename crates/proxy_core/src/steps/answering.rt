@@ -4,11 +4,12 @@ ghost use Rattle.hx_directives.specs.Occurrences.{occurrences_of};
 ghost use Rattle.hx_hop.specs.Answering.{answered_of};
 ghost use Rattle.hx_allow.specs.Matching.{policy_of};
 ghost use Rattle.hx_reuse.specs.Rules.{decision_of};
-ghost use Rattle.hx_vary.specs.Vary.{nominated_values_with};
-ghost use Rattle.proxy_core.specs.Abouts.{about_passed_answer};
+ghost use Rattle.hx_vary.specs.Vary.{nominated_values_with_further_names};
+ghost use Rattle.proxy_core.specs.Abouts.{report_of_passed_answer};
 ghost use Rattle.proxy_core.specs.Replies.{passed_answer_text};
 ghost use Rattle.proxy_core.specs.Storing.{storing_rule_to_explain};
-ghost use Rattle.proxy_core.specs.Outcomes.{is_error_status, outcome_of_passing_on, outcome_of_passing_on_or_stale};
+ghost use Rattle.proxy_core.specs.Outcomes.{is_stale_if_error_status, outcome_of_passing_on};
+ghost use Rattle.proxy_core.specs.Outcomes.{outcome_of_passing_on_or_stale};
 ghost use Rattle.proxy_core.specs.Outcomes.{fallback_for_failed_answer, outcome_of_answer};
 ghost use Rattle.proxy_core.specs.AnsweredRequests.{request_answered};
 ghost use Rattle.proxy_core.specs.Outcomes.{find_exchange, serial_of_stored_answer};
@@ -16,19 +17,19 @@ ghost use Rattle.proxy_core.specs.declared.event.Event.TheVariants.{Answer};
 ghost use Rattle.proxy_core.specs.State.{StepIsAccepted, StepIsRefusedWith};
 ghost use Rattle.proxy_core.specs.Pending.{outcome_of_pending_reply, StoresUnderNextSerial, ChangeIsMadeByAnswer};
 ghost use Rattle.proxy_core.specs.State.{bounds_of};
-ghost use Rattle.proxy_core.specs.Pending.{outcome_after_answer, AnswerLeavesHeldAsStepDoes, AnswerChangeIsApplicable};
+ghost use Rattle.proxy_core.specs.Pending.{outcome_after_answer, HeldAfterAnswerIsThatOfStep, AnswerChangeIsApplicable};
 
 use crate::core_fault::CoreFault;
 use crate::core_state::Core;
-use crate::moments::moment_fault;
+use crate::moments::fault_if_moment_too_late;
 use crate::outcome::Step;
 use crate::replies::origin_answer::OriginAnswer;
 use crate::replies::pending::{AfterAnswer, Change, PendingReply};
 use crate::replies::reply_text::{PassedAnswerInfo, passed_answer_text, ttl_of_passed_answer};
-use crate::replies::stored_reply::{CacheStatusInfo, ReplyTextAndAbout};
-use crate::steps::fallback::{Fallback, fallback_for_failed_answer};
+use crate::replies::stored_reply::{ReplyTextAndAbout, StoredCacheStatusInfo};
+use crate::steps::fallback::{FallbackDecision, fallback_for_failed_answer};
 use crate::steps::storing::{
-    Admission, NewEntry, serials_removed_if_not_stored, serials_replaced_by_storing,
+    NewEntry, StorageDecision, serials_removed_if_not_stored, serials_replaced_by_storing,
 };
 use hx_directives::Directives;
 use hx_framing::Response;
@@ -38,8 +39,8 @@ use hx_storable::StoreRule;
 use hx_store::Shelf;
 use std::alloc::{AllocError, Global};
 
-fn is_error_status(status: u16) -> bool
-    ensures { result ≡ is_error_status status }
+fn is_stale_if_error_status(status: u16) -> bool
+    ensures { result ≡ is_stale_if_error_status status }
 {
     status == 500 || status == 502 || status == 503 || status == 504
 }
@@ -61,7 +62,7 @@ impl<S: Shelf> Core<S> {
             (policy_of self.now.table.lines answer.now.exchange.now.line)
             self.now.table.name answer.now.exchange.now answer.now.response.now answer.now.response_time
             (is_some stored.entry) rule) }
-        ensures about { IfOk result (λ sent. sent.about ≡ about_passed_answer
+        ensures about { IfOk result (λ sent. sent.about ≡ report_of_passed_answer
             (policy_of self.now.table.lines answer.now.exchange.now.line)
             answer.now.exchange.now answer.now.response.now answer.now.response_time (is_some stored.entry) rule) }
     {
@@ -109,7 +110,8 @@ impl<S: Shelf> Core<S> {
         new_entry: NewEntry,
     ) -> Result<PendingReply, AllocError>
         requires head { head ≡ answered_of answer.now.response.now answer.now.response_time }
-        requires nominated { new_entry.nominated ≡ nominated_values_with answer.now.exchange.now.vary head.fields
+        requires nominated { new_entry.nominated
+            ≡ nominated_values_with_further_names answer.now.exchange.now.vary head.fields
             answer.now.exchange.now.asked.fields }
         requires directives { new_entry.directives ≡ occurrences_of head.fields }
         ensures outcome { IfOk result (λ pending. outcome_of_pending_reply pending
@@ -151,7 +153,7 @@ impl<S: Shelf> Core<S> {
             pending.change) }
     {
         let head = answer.head(alloc)?;
-        let Admission { rule, new_entry } = self.admit(alloc, answer, &head)?;
+        let StorageDecision { rule, new_entry } = self.decide_storage(alloc, answer, &head)?;
         match new_entry {
             None => self.pass_on_unstored(alloc, answer, &head, rule),
             Some(new_entry) => self.pass_and_store(alloc, answer, head, rule, new_entry),
@@ -168,7 +170,7 @@ impl<S: Shelf> Core<S> {
         ensures outcome { IfOk result (λ pending. outcome_of_pending_reply pending
             ≡ outcome_of_passing_on_or_stale self.now.table self.now.entries answer.now.response_time
             answer.now.exchange.now
-            answer.now.response.now self.now.next (is_error_status answer.now.response.now.status)
+            answer.now.response.now self.now.next (is_stale_if_error_status answer.now.response.now.status)
             (fallback_for_failed_answer (policy_of self.now.table.lines answer.now.exchange.now.line) self.now.entries
             answer.now.exchange.now.asked answer.now.response_time (decision_of (policy_of self.now.table.lines
             answer.now.exchange.now.line) self.now.entries answer.now.exchange.now.asked answer.now.response_time))) }
@@ -178,7 +180,7 @@ impl<S: Shelf> Core<S> {
             pending.change) }
     {
         let status = answer.response.status;
-        if !is_error_status(status) {
+        if !is_stale_if_error_status(status) {
             return self.pass_on(alloc, answer);
         }
         let exchange = answer.exchange;
@@ -186,11 +188,16 @@ impl<S: Shelf> Core<S> {
         let now = answer.response_time;
         let policy = self.config.policy(exchange.line);
         match fallback_for_failed_answer(alloc, &self.shelf, asked, now, policy)? {
-            Fallback::Sends(serial, detail) => {
-                let info = CacheStatusInfo::forwarded(policy, exchange, Some(status), Some(detail));
+            FallbackDecision::Sends(serial, detail) => {
+                let info = StoredCacheStatusInfo::forwarded(
+                    policy,
+                    exchange,
+                    Some(status),
+                    Some(detail),
+                );
                 self.send(alloc, serial, now, info, asked)
             }
-            Fallback::Refuses(_, _) => self.pass_on(alloc, answer),
+            FallbackDecision::Refuses(_, _) => self.pass_on(alloc, answer),
         }
     }
 
@@ -206,7 +213,7 @@ impl<S: Shelf> Core<S> {
             answer.now.response.now self.now.next (decision_of (policy_of self.now.table.lines
             answer.now.exchange.now.line) self.now.entries answer.now.exchange.now.asked answer.now.response_time)) }
         ensures leaves { IfOk result
-            (λ after. AnswerLeavesHeldAsStepDoes (bounds_of self.now.table self.now.limit) self.now.entries
+            (λ after. HeldAfterAnswerIsThatOfStep (bounds_of self.now.table self.now.limit) self.now.entries
             answer.now.exchange.now
             (Answer answer.now.response_time answer.now.exchange.now.id answer.now.response.now) after) }
         ensures fits { IfOk result (λ after. AnswerChangeIsApplicable self.now.next self.now.entries after) }

@@ -9,30 +9,32 @@ ghost use Rattle.hx_store.specs.Weights.{cut_to_bounds};
 ghost use Rattle.hx_reuse.specs.Rules.{decision_of};
 ghost use Rattle.hx_reuse.specs.declared.decision.Decision.TheVariants as decision;
 ghost use Rattle.proxy_core.specs.Leading.{leader_id_if_awaited};
-ghost use Rattle.proxy_core.specs.Awaiting.{awaited_by_request};
-ghost use Rattle.proxy_core.specs.Revalidating.{may_be_sent_at_serial, sent_while_awaited, sent_while_revalidating};
-ghost use Rattle.proxy_core.specs.Outcomes.{hit_status_info, revalidating_status_info, find_exchange};
+ghost use Rattle.proxy_core.specs.Awaiting.{response_awaited_by_request};
+ghost use Rattle.proxy_core.specs.Revalidating.{stale_serial_may_be_sent, serial_sent_while_awaited};
+ghost use Rattle.proxy_core.specs.Revalidating.{serial_sent_while_revalidating};
+ghost use Rattle.proxy_core.specs.Outcomes.{hit_status_info, stale_while_revalidating_info, find_exchange};
 ghost use Rattle.proxy_core.specs.Outcomes.{outcome_of_refusal, outcome_of_sending_stored};
 ghost use Rattle.proxy_core.specs.Outcomes.{outcome_of_allowed_request, outcome_of_waiting_or_forwarding, forward_text};
 ghost use Rattle.proxy_core.specs.Outcomes.{is_only_if_cached};
 ghost use Rattle.proxy_core.specs.declared.event.Event.TheVariants.{Arrive};
 ghost use Rattle.proxy_core.specs.declared.open.stage.Stage.TheVariants.{Forwarded};
-ghost use Rattle.proxy_core.specs.State.{StepIsAccepted, StepIsRefusedWith, state_after_event, exchange_with_leader};
+ghost use Rattle.proxy_core.specs.State.{StepIsAccepted, StepIsRefusedWith, state_after_event};
+ghost use Rattle.proxy_core.specs.State.{exchange_waiting_if_leader};
 ghost use Rattle.proxy_core.specs.State.{bounds_of};
 
 use crate::core_fault::CoreFault;
 use crate::core_state::Core;
-use crate::moments::moment_fault;
+use crate::moments::fault_if_moment_too_late;
 use crate::open::awaited::Awaited;
 use crate::open::exchange::Exchange;
-use crate::open::leading::{awaited_by_request, has_no_store};
+use crate::open::leading::{request_has_no_store, response_awaited_by_request};
 use crate::open::stage::Stage;
 use crate::outcome::{Outcome, Reply};
-use crate::replies::stored_reply::CacheStatusInfo;
-use crate::steps::condition::condition_about_serial;
+use crate::replies::stored_reply::StoredCacheStatusInfo;
+use crate::steps::condition::condition_to_revalidate_serial;
 use crate::steps::finishing::cut;
 use crate::steps::sending::{forward_text, refuse};
-use hx_allow::{RequestRoute, Verdict};
+use hx_allow::{RouteOverLine, Verdict};
 use hx_directives::{Directive, Directives};
 use hx_hop::Asked;
 use hx_policy::Policy;
@@ -51,10 +53,10 @@ struct Judged {
 }
 
 /// A stored response that no rule keeps back.
-fn hit_status_info(policy: Policy) -> CacheStatusInfo
+fn hit_status_info(policy: Policy) -> StoredCacheStatusInfo
     ensures { result ≡ hit_status_info policy }
 {
-    CacheStatusInfo {
+    StoredCacheStatusInfo {
         policy,
         how: How::Hit,
         came: None,
@@ -65,10 +67,10 @@ fn hit_status_info(policy: Policy) -> CacheStatusInfo
 }
 
 /// A stale response that is sent while one asks the origin about it.
-fn revalidating_status_info(policy: Policy) -> CacheStatusInfo
-    ensures { result ≡ revalidating_status_info policy }
+fn stale_while_revalidating_info(policy: Policy) -> StoredCacheStatusInfo
+    ensures { result ≡ stale_while_revalidating_info policy }
 {
-    CacheStatusInfo {
+    StoredCacheStatusInfo {
         policy,
         how: How::Hit,
         came: None,
@@ -112,7 +114,7 @@ impl<S: Shelf> Core<S> {
             Some(_) => return Err(CoreFault::IdTaken),
             None => {}
         }
-        match moment_fault(now) {
+        match fault_if_moment_too_late(now) {
             None => {}
             Some(fault) => return Err(fault),
         }
@@ -135,7 +137,7 @@ impl<S: Shelf> Core<S> {
         now: u64,
         id: u64,
         asked: &Asked,
-        line: RequestRoute,
+        line: RouteOverLine,
     ) -> Result<Outcome, AllocError>
         requires early { now < 253_402_300_800 }
         requires free { find_exchange id self.old.exchanges ≡ None }
@@ -164,7 +166,7 @@ impl<S: Shelf> Core<S> {
                     named,
                 };
                 let awaited = self.awaited(alloc, now, asked, &directives, judged)?;
-                let beside = self.sent_while_revalidating(
+                let beside = self.serial_sent_while_revalidating(
                     now,
                     asked,
                     &directives,
@@ -173,7 +175,7 @@ impl<S: Shelf> Core<S> {
                     line,
                 );
                 if let Some(serial) = beside {
-                    let info = revalidating_status_info(policy);
+                    let info = stale_while_revalidating_info(policy);
                     return self.serve_stored(alloc, now, serial, info, asked);
                 }
                 let exchange = Exchange {
@@ -181,13 +183,13 @@ impl<S: Shelf> Core<S> {
                     asked: asked.copy(alloc)?,
                     line,
                     vary: FieldNames::copy_of(alloc, self.config.vary(line.number))?,
-                    removes_cookies: policy.removes_cookies,
+                    removes_set_cookie: policy.removes_set_cookie,
                     rule,
                     named,
                     request_time: now,
-                    condition: condition_about_serial(alloc, &self.shelf, named)?,
+                    condition: condition_to_revalidate_serial(alloc, &self.shelf, named)?,
                     overtaken: false,
-                    no_store: has_no_store(&directives, asked),
+                    no_store: request_has_no_store(&directives, asked),
                     stage: Stage::Forwarded,
                 };
                 self.wait_or_forward(alloc, policy, awaited, exchange)
@@ -201,7 +203,7 @@ impl<S: Shelf> Core<S> {
         alloc: Global,
         now: u64,
         serial: u64,
-        info: CacheStatusInfo,
+        info: StoredCacheStatusInfo,
         asked: &Asked,
     ) -> Result<Outcome, AllocError>
         ensures outcome { IfOk result (λ outcome. outcome
@@ -219,7 +221,7 @@ impl<S: Shelf> Core<S> {
     }
 
     /// Whether the held response of a serial may be sent while one asks the origin about it.
-    fn may_be_sent_at_serial(
+    fn stale_serial_may_be_sent(
         &self,
         now: u64,
         asked: &Asked,
@@ -228,7 +230,7 @@ impl<S: Shelf> Core<S> {
         serial: u64,
     ) -> bool
         requires { directives.now ≡ occurrences_of asked.now.fields }
-        ensures { result ≡ may_be_sent_at_serial policy self.now.entries asked.now now serial }
+        ensures { result ≡ stale_serial_may_be_sent policy self.now.entries asked.now now serial }
     {
         match self.shelf.peek(serial) {
             Some(entry) => may_serve_while_revalidating(directives, entry, now, policy),
@@ -237,7 +239,7 @@ impl<S: Shelf> Core<S> {
     }
 
     /// What is awaited, where it may be sent while one asks the origin about it.
-    fn sent_while_awaited(
+    fn serial_sent_while_awaited(
         &self,
         now: u64,
         asked: &Asked,
@@ -246,11 +248,11 @@ impl<S: Shelf> Core<S> {
         awaited: Option<Awaited>,
     ) -> Option<u64>
         requires { directives.now ≡ occurrences_of asked.now.fields }
-        ensures { result ≡ sent_while_awaited policy self.now.entries asked.now now awaited }
+        ensures { result ≡ serial_sent_while_awaited policy self.now.entries asked.now now awaited }
     {
         match awaited {
             Some(Awaited::Expired(serial)) => {
-                if self.may_be_sent_at_serial(now, asked, directives, policy, serial) {
+                if self.stale_serial_may_be_sent(now, asked, directives, policy, serial) {
                     Some(serial)
                 } else {
                     None
@@ -263,22 +265,22 @@ impl<S: Shelf> Core<S> {
 
     /// The stale response that is sent in place of waiting for the exchange that leads over this line (RFC 5861,
     /// section 3).
-    fn sent_while_revalidating(
+    fn serial_sent_while_revalidating(
         &self,
         now: u64,
         asked: &Asked,
         directives: &Directives,
         policy: Policy,
         awaited: Option<Awaited>,
-        line: RequestRoute,
+        line: RouteOverLine,
     ) -> Option<u64>
         requires { directives.now ≡ occurrences_of asked.now.fields }
-        ensures { result ≡ sent_while_revalidating policy self.now.entries asked.now now awaited
+        ensures { result ≡ serial_sent_while_revalidating policy self.now.entries asked.now now awaited
             (leader_id_if_awaited policy asked.now
             (exchanges_to_wait_for self.now.table line asked.now self.now.exchanges) awaited) }
     {
         match self.leader_for(policy, awaited, asked, line) {
-            Some(_) => self.sent_while_awaited(now, asked, directives, policy, awaited),
+            Some(_) => self.serial_sent_while_awaited(now, asked, directives, policy, awaited),
             None => None,
         }
     }
@@ -296,13 +298,13 @@ impl<S: Shelf> Core<S> {
         requires decided { decision_of judged.policy self.now.entries asked.now now
             ≡ decision.Forward judged.rule judged.named }
         ensures { IfOk result (λ awaited. awaited
-            ≡ awaited_by_request judged.policy self.now.entries asked.now judged.rule) }
+            ≡ response_awaited_by_request judged.policy self.now.entries asked.now judged.rule) }
     {
         let chosen = match judged.named {
             Some(serial) => self.shelf.peek(serial),
             None => None,
         };
-        awaited_by_request(alloc, judged.policy, asked, directives, judged.rule, chosen)
+        response_awaited_by_request(alloc, judged.policy, asked, directives, judged.rule, chosen)
     }
 
     /// The first of the open exchanges that has asked for what a request could be sent.
@@ -318,12 +320,12 @@ impl<S: Shelf> Core<S> {
         policy: Policy,
         awaited: Option<Awaited>,
         asked: &Asked,
-        line: RequestRoute,
+        line: RouteOverLine,
     ) -> Option<u64>
         ensures { result ≡ leader_id_if_awaited policy asked.now
             (exchanges_to_wait_for self.now.table line asked.now self.now.exchanges) awaited }
     {
-        if self.config.came_back(line, &asked.fields) {
+        if self.config.is_refused_as_loop(line, &asked.fields) {
             None
         } else {
             self.leader_among(policy, awaited, asked)
@@ -346,7 +348,7 @@ impl<S: Shelf> Core<S> {
             (exchanges_to_wait_for self.old.table exchange.line exchange.asked self.old.exchanges) awaited)) }
         ensures after { OnOk result (self.new ≡ record self.old {
           exchanges = self.old.exchanges
-              ++ exchange_with_leader
+              ++ exchange_waiting_if_leader
               (leader_id_if_awaited policy exchange.asked
               (exchanges_to_wait_for self.old.table exchange.line exchange.asked self.old.exchanges) awaited)
               exchange ∷ [];

@@ -1,6 +1,6 @@
 //! What a request carries of a held response (RFC 9111, section 4.3.1).
 ghost use Rattle.std.specs.Prelude.{◌≡◌, IfOk};
-ghost use Rattle.proxy_core.specs.Validating.{condition_about_stored, condition_about_serial};
+ghost use Rattle.proxy_core.specs.Validating.{condition_to_revalidate_stored, condition_to_revalidate_serial};
 
 use hx_hop::Conditions;
 use hx_store::{Entry, Shelf};
@@ -21,8 +21,11 @@ impl Drop for Condition {
 }
 
 /// What a request carries of a held response, if it has a validator.
-fn condition_about_stored(alloc: Global, entry: &Entry) -> Result<Option<Condition>, AllocError>
-    ensures { IfOk result (λ condition. condition ≡ condition_about_stored entry.now) }
+fn condition_to_revalidate_stored(
+    alloc: Global,
+    entry: &Entry,
+) -> Result<Option<Condition>, AllocError>
+    ensures { IfOk result (λ condition. condition ≡ condition_to_revalidate_stored entry.now) }
 {
     if has_validator(&entry.fields) {
         Ok(Some(Condition {
@@ -35,16 +38,16 @@ fn condition_about_stored(alloc: Global, entry: &Entry) -> Result<Option<Conditi
 }
 
 /// What a request carries of the held response that a rule names.
-pub(crate) fn condition_about_serial<S: Shelf>(
+pub(crate) fn condition_to_revalidate_serial<S: Shelf>(
     alloc: Global,
     shelf: &S,
     named: Option<u64>,
 ) -> Result<Option<Condition>, AllocError>
-    ensures { IfOk result (λ condition. condition ≡ condition_about_serial (S.entries shelf.now) named) }
+    ensures { IfOk result (λ condition. condition ≡ condition_to_revalidate_serial (S.entries shelf.now) named) }
 {
     match named {
         Some(serial) => match shelf.peek(serial) {
-            Some(entry) => condition_about_stored(alloc, entry),
+            Some(entry) => condition_to_revalidate_stored(alloc, entry),
             None => Ok(None),
         },
         None => Ok(None),

@@ -3,17 +3,18 @@ ghost use Rattle.std.specs.Prelude.{◌≡◌, ◌<◌, Some, None, IfOk};
 ghost use Rattle.hx_directives.specs.Occurrences.{occurrences_of};
 ghost use Rattle.hx_allow.specs.Matching.{policy_of};
 ghost use Rattle.hx_reuse.specs.Rules.{decision_of};
-ghost use Rattle.proxy_core.specs.Outcomes.{error_rule_for_serial, fallback_with_error_rule};
+ghost use Rattle.proxy_core.specs.Outcomes.{error_rule_against_serial, fallback_by_error_rule};
 ghost use Rattle.proxy_core.specs.Outcomes.{fallback_for_failed_answer};
 ghost use Rattle.proxy_core.specs.Outcomes.{outcome_of_failure};
-ghost use Rattle.proxy_core.specs.Outcomes.{serials_removed_by_status, outcome_after_origin, outcome_of_refusal};
-ghost use Rattle.proxy_core.specs.Pending.{outcome_of_pending_reply, ChangeStoresNothing};
+ghost use Rattle.proxy_core.specs.Outcomes.{serials_invalidated_by_status, reply_after_origin_was_asked};
+ghost use Rattle.proxy_core.specs.Outcomes.{outcome_of_refusal};
+ghost use Rattle.proxy_core.specs.Pending.{outcome_of_pending_reply, ChangeOnlyKeepsOrUses};
 
 use crate::core_state::Core;
 use crate::open::exchange::Exchange;
 use crate::replies::origin_answer::status_invalidates;
 use crate::replies::pending::{Change, PendingReply};
-use crate::replies::stored_reply::CacheStatusInfo;
+use crate::replies::stored_reply::StoredCacheStatusInfo;
 use crate::steps::sending::refuse;
 use hx_directives::Directives;
 use hx_hop::Asked;
@@ -25,7 +26,7 @@ use std::alloc::{AllocError, Global};
 
 /// What a failure comes to.
 #[derive(Clone, Copy, Debug, PartialEq, Eq)]
-pub enum Fallback {
+pub enum FallbackDecision {
     /// The held response of this serial is sent, and this word tells why.
     Sends(u64, Detail),
     /// The reuse rule that stands now, and with one on the chosen response the error rule.
@@ -33,7 +34,7 @@ pub enum Fallback {
 }
 
 /// The error rule against the held response of a serial.
-fn error_rule_for_serial<S: Shelf>(
+fn error_rule_against_serial<S: Shelf>(
     shelf: &S,
     serial: u64,
     asked: &Asked,
@@ -42,7 +43,7 @@ fn error_rule_for_serial<S: Shelf>(
     policy: Policy,
 ) -> Option<ErrorRule>
     requires { asked_directives.now ≡ occurrences_of asked.now.fields }
-    ensures { result ≡ error_rule_for_serial policy (S.entries shelf.now) serial asked.now now }
+    ensures { result ≡ error_rule_against_serial policy (S.entries shelf.now) serial asked.now now }
 {
     match shelf.peek(serial) {
         Some(entry) => may_serve_on_error(asked_directives, entry, now, policy).err(),
@@ -50,12 +51,16 @@ fn error_rule_for_serial<S: Shelf>(
     }
 }
 
-fn fallback_with_error_rule(rule: ReuseRule, serial: u64, error: Option<ErrorRule>) -> Fallback
-    ensures { result ≡ fallback_with_error_rule rule serial error }
+fn fallback_by_error_rule(
+    rule: ReuseRule,
+    serial: u64,
+    error: Option<ErrorRule>,
+) -> FallbackDecision
+    ensures { result ≡ fallback_by_error_rule rule serial error }
 {
     match error {
-        Some(error) => Fallback::Refuses(rule, Some(error)),
-        None => Fallback::Sends(serial, Detail::StaleIfError),
+        Some(error) => FallbackDecision::Refuses(rule, Some(error)),
+        None => FallbackDecision::Sends(serial, Detail::StaleIfError),
     }
 }
 
@@ -66,17 +71,17 @@ pub(crate) fn fallback_for_failed_answer<S: Shelf>(
     asked: &Asked,
     now: u64,
     policy: Policy,
-) -> Result<Fallback, AllocError>
+) -> Result<FallbackDecision, AllocError>
     ensures { IfOk result (λ fallback. fallback ≡ fallback_for_failed_answer policy (S.entries shelf.now) asked.now now
         (decision_of policy (S.entries shelf.now) asked.now now)) }
 {
     let directives = Directives::of(alloc, &asked.fields)?;
     match decide(alloc, asked, &directives, shelf, now, policy)? {
-        Decision::Hit(serial) => Ok(Fallback::Sends(serial, Detail::ReuseAfterError)),
-        Decision::Forward(rule, None) => Ok(Fallback::Refuses(rule, None)),
+        Decision::Hit(serial) => Ok(FallbackDecision::Sends(serial, Detail::ReuseAfterError)),
+        Decision::Forward(rule, None) => Ok(FallbackDecision::Refuses(rule, None)),
         Decision::Forward(rule, Some(serial)) => {
-            let error = error_rule_for_serial(shelf, serial, asked, &directives, now, policy);
-            Ok(fallback_with_error_rule(rule, serial, error))
+            let error = error_rule_against_serial(shelf, serial, asked, &directives, now, policy);
+            Ok(fallback_by_error_rule(rule, serial, error))
         }
     }
 }
@@ -88,7 +93,7 @@ fn removed_by_status<S: Shelf>(
     asked: &Asked,
     came: Option<u16>,
 ) -> Result<Serials, AllocError>
-    ensures { IfOk result (λ removed. removed ≡ serials_removed_by_status (S.entries shelf.now) asked.now came) }
+    ensures { IfOk result (λ removed. removed ≡ serials_invalidated_by_status (S.entries shelf.now) asked.now came) }
 {
     if let Some(status) = came {
         if status_invalidates(asked, status) {
@@ -108,7 +113,7 @@ fn refuse_after_origin(
 ) -> Result<PendingReply, AllocError>
     requires { now < 253_402_300_800 }
     ensures outcome { IfOk result (λ pending. outcome_of_pending_reply pending
-        ≡ outcome_after_origin exchange.now.line removed (outcome_of_refusal now cause exchange.now.asked)) }
+        ≡ reply_after_origin_was_asked exchange.now.line removed (outcome_of_refusal now cause exchange.now.asked)) }
     ensures change { IfOk result (λ pending. pending.change ≡ Change.Keep) }
 {
     let PendingReply {
@@ -147,16 +152,16 @@ impl<S: Shelf> Core<S> {
             (fallback_for_failed_answer
             (policy_of self.now.table.lines exchange.now.line) self.now.entries exchange.now.asked now
             (decision_of (policy_of self.now.table.lines exchange.now.line) self.now.entries exchange.now.asked now))) }
-        ensures plain { IfOk result (λ pending. ChangeStoresNothing pending.change) }
+        ensures plain { IfOk result (λ pending. ChangeOnlyKeepsOrUses pending.change) }
     {
         let asked = &exchange.asked;
         let policy = self.config.policy(exchange.line);
         match fallback_for_failed_answer(alloc, &self.shelf, asked, now, policy)? {
-            Fallback::Sends(serial, detail) => {
-                let info = CacheStatusInfo::forwarded(policy, exchange, came, Some(detail));
+            FallbackDecision::Sends(serial, detail) => {
+                let info = StoredCacheStatusInfo::forwarded(policy, exchange, came, Some(detail));
                 self.send(alloc, serial, now, info, asked)
             }
-            Fallback::Refuses(rule, error) => {
+            FallbackDecision::Refuses(rule, error) => {
                 let removed = removed_by_status(alloc, &self.shelf, asked, came)?;
                 let cause = Cause::Origin(kind, rule, error);
                 refuse_after_origin(alloc, now, cause, exchange, removed)

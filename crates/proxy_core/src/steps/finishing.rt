@@ -4,8 +4,9 @@ ghost use Rattle.hx_store.specs.Shelf.{holds_serial, without_serials};
 ghost use Rattle.hx_store.specs.Weights.{cut_to_bounds, prefix_of_weight_if_any, weight_of_entry};
 ghost use Rattle.proxy_core.specs.AnsweredRequests.{request_of_exchange};
 ghost use Rattle.proxy_core.specs.Outcomes.{find_exchange};
-ghost use Rattle.proxy_core.specs.State.{entries_without_serials, next_serial_after, exchange_forwarded_again};
-ghost use Rattle.proxy_core.specs.State.{exchange_sent_forward};
+ghost use Rattle.proxy_core.specs.State.{entries_without_serials, next_serial_after_storing};
+ghost use Rattle.proxy_core.specs.State.{exchange_after_second_forward};
+ghost use Rattle.proxy_core.specs.State.{exchange_sent_forward_if_of_id};
 ghost use Rattle.proxy_core.specs.Pending.{outcome_of_pending_reply, entries_after_change, state_after_reply};
 ghost use Rattle.proxy_core.specs.Pending.{StoresUnderNextSerial, StoresNewSerial, FreshensHeldResponse};
 
@@ -14,7 +15,7 @@ use crate::open::exchange::Exchange;
 use crate::open::serial_numbers::serial_after;
 use crate::outcome::{Outcome, Reply, Step};
 use crate::replies::pending::{Change, PendingReply};
-use hx_allow::RequestRoute;
+use hx_allow::RouteOverLine;
 use hx_fields::Bytes;
 use hx_hop::Asked;
 use hx_store::{Entry, Shelf, evict_to_weight};
@@ -22,7 +23,7 @@ use hx_target::Key;
 use std::alloc::AllocError;
 
 /// Lets the least recently used go until the others weigh no more than `most` bytes together. Nothing is allocated.
-fn shed<S: Shelf>(shelf: &mut S, most: Option<u64>)
+fn evict_to_weight_if_bounded<S: Shelf>(shelf: &mut S, most: Option<u64>)
     requires { IfSome most (λ most. most < 2 ^ 64 - 1) }
     ensures entries { S.entries shelf.new ≡ prefix_of_weight_if_any weight_of_entry most (S.entries shelf.old) }
     ensures limit { S.limit shelf.new ≡ S.limit shelf.old }
@@ -42,7 +43,7 @@ pub(crate) fn cut<S: Shelf>(shelf: &mut S, most: Option<u64>)
 {
     // A shelf keeps to its capacity of itself.
     let _held = shelf.len();
-    shed(shelf, most);
+    evict_to_weight_if_bounded(shelf, most);
 }
 
 /// Stores an entry. What is evicted is let go.
@@ -62,7 +63,7 @@ fn put_in<S: Shelf>(
 {
     match shelf.put(entry, removed) {
         Ok(_) => {
-            shed(shelf, most);
+            evict_to_weight_if_bounded(shelf, most);
             Ok(())
         }
         Err(_) => Err(AllocError),
@@ -123,8 +124,8 @@ fn change_shelf<S: Shelf>(
 }
 
 /// The next serial, after one may have been stored.
-fn next_serial_after(next: Option<u64>, stored: Option<u64>) -> Option<u64>
-    ensures { result ≡ next_serial_after next stored }
+fn next_serial_after_storing(next: Option<u64>, stored: Option<u64>) -> Option<u64>
+    ensures { result ≡ next_serial_after_storing next stored }
 {
     match stored {
         Some(serial) => serial_after(serial),
@@ -148,13 +149,13 @@ impl<S: Shelf> Core<S> {
         &mut self,
         id: u64,
         now: u64,
-        line: RequestRoute,
+        line: RouteOverLine,
         bytes: Bytes,
     ) -> Result<Outcome, AllocError>
         ensures outcome { IfOk result (λ outcome. outcome ≡ Outcome.Forward line bytes) }
         ensures after { OnOk result (self.new ≡ record self.old {
           exchanges = map
-              (exchange_forwarded_again id now) self.old.exchanges;
+              (exchange_after_second_forward id now) self.old.exchanges;
         }) }
         ensures unchanged { OnErr result (self.new ≡ self.old) }
     {
@@ -193,7 +194,7 @@ impl<S: Shelf> Core<S> {
             Err(error) => return Err(error),
         }
         let ended = self.exchanges.end_exchange(id, invalidated.as_ref());
-        self.next = next_serial_after(self.next, stored);
+        self.next = next_serial_after_storing(self.next, stored);
         let outcome = Outcome::Reply(Reply {
             bytes,
             close,

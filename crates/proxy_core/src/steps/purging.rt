@@ -1,10 +1,11 @@
 //! A request that purges.
 ghost use Rattle.std.specs.Prelude.{◌≡◌, ◌<◌, map, IfOk, OnOk, OnErr, Some};
-ghost use Rattle.hx_allow.specs.Tags.{is_purged_by_tag};
+ghost use Rattle.hx_allow.specs.Tags.{is_purged_by_tag_if_any};
 ghost use Rattle.proxy_core.specs.Scopes.{scope_without_tag, scope_of_purge, serials_purged_by_request};
 ghost use Rattle.proxy_core.specs.Scopes.{serials_within_scope};
 ghost use Rattle.proxy_core.specs.Outcomes.{outcome_of_purge, outcome_of_purge_reply};
-ghost use Rattle.proxy_core.specs.State.{entries_after_purge, entries_after_purging_serials, overtaken_exchange};
+ghost use Rattle.proxy_core.specs.State.{entries_after_purge, entries_after_purging_serials};
+ghost use Rattle.proxy_core.specs.State.{exchange_overtaken_if_in_scope};
 
 use crate::core_state::Core;
 use crate::open::exchanges::Exchanges;
@@ -12,7 +13,7 @@ use crate::outcome::{Outcome, Reply};
 use crate::replies::reply_text::purged;
 use crate::steps::finishing::remove_each;
 use hx_allow::{
-    PurgeMode, PurgeScope, purge_mode_or_remove, purge_scope_or_target, purge_tag_or_none,
+    PurgeMode, PurgeScope, purge_scope_of_request, purge_tag_or_none, request_purge_mode_or_remove,
     response_names_tag,
 };
 use hx_fields::{Bytes, Fields};
@@ -33,8 +34,8 @@ struct WithinScope {
 }
 
 /// Whether a response names a tag, where one is asked for.
-fn is_purged_by_tag(tag: &Option<Bytes>, fields: &Fields) -> bool
-    ensures { result ≡ is_purged_by_tag tag.now fields.now }
+fn is_purged_by_tag_if_any(tag: &Option<Bytes>, fields: &Fields) -> bool
+    ensures { result ≡ is_purged_by_tag_if_any tag.now fields.now }
 {
     match tag {
         None => true,
@@ -51,7 +52,7 @@ impl EntryTest for WithinScope {
     // Most are told apart by the key, and to compare that costs less.
     fn entry_passes_test(&self, entry: &Entry) -> bool {
         let within = self.reach.has(&self.asked, &entry.key);
-        within && is_purged_by_tag(&self.tag, &entry.fields)
+        within && is_purged_by_tag_if_any(&self.tag, &entry.fields)
     }
 }
 
@@ -60,7 +61,7 @@ impl EntryTest for WithinScope {
 fn find_purged<S: Shelf>(shelf: &S, alloc: Global, asked: &Asked) -> Result<Serials, AllocError>
     ensures { IfOk result (λ found. found ≡ serials_purged_by_request asked.now (S.entries shelf.now)) }
 {
-    let reach = purge_scope_or_target(&asked.fields);
+    let reach = purge_scope_of_request(&asked.fields);
     let key = &asked.target.key;
     match purge_tag_or_none(&asked.fields) {
         None => find_by_key(shelf, alloc, reach, key),
@@ -114,14 +115,14 @@ fn find_within<S: Shelf>(
         asked: asked.copy(alloc)?,
         tag,
     };
-    shelf.find_where(alloc, &scope)
+    shelf.find_serials_where(alloc, &scope)
 }
 
 /// Marks what was asked for within the scope of a purge: by its key, whatever the tag.
 fn overtake_purged(exchanges: &mut Exchanges, asked: &Asked)
-    ensures { exchanges.new ≡ map (overtaken_exchange (scope_of_purge asked.now)) exchanges.old }
+    ensures { exchanges.new ≡ map (exchange_overtaken_if_in_scope (scope_of_purge asked.now)) exchanges.old }
 {
-    let reach = purge_scope_or_target(&asked.fields);
+    let reach = purge_scope_of_request(&asked.fields);
     exchanges.overtake_within(reach, &asked.target.key);
 }
 
@@ -170,13 +171,13 @@ impl<S: Shelf> Core<S> {
         ensures outcome { IfOk result (λ outcome. outcome ≡ outcome_of_purge self.old.entries now asked.now) }
         ensures after { OnOk result (self.new ≡ record self.old {
           entries = entries_after_purge asked.now now self.old.entries;
-          exchanges = map (overtaken_exchange (scope_of_purge asked.now)) self.old.exchanges;
+          exchanges = map (exchange_overtaken_if_in_scope (scope_of_purge asked.now)) self.old.exchanges;
         }) }
         ensures unchanged { OnErr result (self.new ≡ self.old) }
     {
         let taken = find_purged(&self.shelf, alloc, asked)?;
         let bytes = purged(alloc, now, taken.as_slice().len(), asked.close)?;
-        let mode = purge_mode_or_remove(&asked.fields);
+        let mode = request_purge_mode_or_remove(&asked.fields);
         take_each(&mut self.shelf, mode, taken.as_slice(), now);
         overtake_purged(&mut self.exchanges, asked);
         Ok(purge_reply(alloc, bytes, asked.close, mode, taken))

@@ -10,9 +10,9 @@ ghost use Rattle.proxy_core.specs.Pending.{outcome_of_pending_reply};
 use crate::core_state::Core;
 use crate::replies::pending::{Change, PendingReply};
 use crate::replies::reply_text::{is_head, refused};
-use crate::replies::stored_reply::{CacheStatusInfo, ReplyTextAndAbout, StoredReply};
+use crate::replies::stored_reply::{ReplyTextAndAbout, StoredCacheStatusInfo, StoredReply};
 use crate::steps::condition::Condition;
-use hx_allow::{Config, RequestRoute};
+use hx_allow::{RouteOverLine, Table};
 use hx_fields::Bytes;
 use hx_framing::write_request;
 use hx_hop::{Asked, Conditions, forward_request};
@@ -44,7 +44,7 @@ impl<S: Shelf> Core<S> {
         alloc: Global,
         serial: u64,
         now: u64,
-        info: CacheStatusInfo,
+        info: StoredCacheStatusInfo,
         asked: &Asked,
     ) -> Result<PendingReply, AllocError>
         ensures outcome { IfOk result (λ pending. outcome_of_pending_reply pending
@@ -109,8 +109,8 @@ fn conditions_to_send(condition: Option<&Condition>) -> Option<&Conditions>
 /// stay here, and so may its range.
 pub(crate) fn forward_text(
     alloc: Global,
-    config: &Config,
-    line: RequestRoute,
+    config: &Table,
+    line: RouteOverLine,
     asked: &Asked,
     condition: Option<&Condition>,
 ) -> Result<Bytes, AllocError>

@@ -2,10 +2,11 @@
 ghost use Rattle.std.specs.Prelude.{◌≡◌, ◌<◌, ◌-◌, ◌^◌, ℕ, min, Some, None, IfOk, IfSome, option_map};
 ghost use Rattle.hx_directives.specs.Occurrences.{occurrences_of};
 ghost use Rattle.hx_hop.specs.Answering.{answered_of};
-ghost use Rattle.hx_vary.specs.Vary.{nominated_values_with, nomination_with};
-ghost use Rattle.hx_storable.specs.Rules.{storage_rule_of};
-ghost use Rattle.proxy_core.specs.Storing.{nominates_a_star, storing_facts_of_answer, storing_rule_to_explain};
-ghost use Rattle.proxy_core.specs.Storing.{stored_response_made, serials_replaced_by_storing, answer_is_too_large};
+ghost use Rattle.hx_vary.specs.Vary.{nominated_values_with_further_names, nomination_with_further_names};
+ghost use Rattle.hx_storable.specs.Rules.{rule_against_storing};
+ghost use Rattle.proxy_core.specs.Storing.{nomination_is_star, storing_facts_of_answer, storing_rule_to_explain};
+ghost use Rattle.proxy_core.specs.Storing.{stored_response_made, serials_replaced_by_storing};
+ghost use Rattle.proxy_core.specs.Storing.{answer_is_too_large_to_store};
 ghost use Rattle.proxy_core.specs.Validating.{weight_exceeds_optional_bound};
 ghost use Rattle.proxy_core.specs.Outcomes.{serial_of_stored_answer, serials_removed_by_answer};
 
@@ -13,11 +14,11 @@ use crate::core_state::Core;
 use crate::replies::origin_answer::OriginAnswer;
 use hx_age::Times;
 use hx_directives::Directives;
-use hx_hop::{Answered, Asked, lists_cache_field};
+use hx_hop::{Answered, Asked, connection_names_caching_field};
 use hx_reuse::lifetime_under_policy;
 use hx_storable::laws::the_least_storage_rule_is_named;
 use hx_storable::{StoreRule, StoringFacts, first_rule_against};
-use hx_store::{Entry, Serials, Shelf, weight_of_parts};
+use hx_store::{Entry, Serials, Shelf, weight_of_entry_parts};
 use hx_validate::has_validator;
 use hx_vary::{Nominated, Nomination};
 use std::alloc::{AllocError, Global};
@@ -32,19 +33,19 @@ pub(crate) struct NewEntry {
 
 /// Whether an answer is stored.
 #[derive(Drop)]
-pub(crate) struct Admission {
+pub(crate) struct StorageDecision {
     /// What is told of the first storing rule against it.
     pub(crate) rule: Option<StoreRule>,
     /// What it has as a stored response, where it is stored.
     pub(crate) new_entry: Option<NewEntry>,
 }
 
-impl Admission {
-    fn not_stored(rule: Option<StoreRule>) -> Admission
+impl StorageDecision {
+    fn not_stored(rule: Option<StoreRule>) -> StorageDecision
         ensures rule { result.rule ≡ rule }
         ensures new_entry { result.new_entry ≡ None }
     {
-        Admission {
+        StorageDecision {
             rule,
             new_entry: None,
         }
@@ -60,7 +61,8 @@ impl NewEntry {
         head: Answered,
     ) -> Result<Entry, AllocError>
         requires head { head ≡ answered_of answer.now.response.now answer.now.response_time }
-        requires nominated { self.nominated ≡ nominated_values_with answer.now.exchange.now.vary head.fields
+        requires nominated { self.nominated
+            ≡ nominated_values_with_further_names answer.now.exchange.now.vary head.fields
             answer.now.exchange.now.asked.fields }
         requires directives { self.directives ≡ occurrences_of head.fields }
         ensures { IfOk result (λ entry. entry
@@ -77,7 +79,7 @@ impl NewEntry {
         let key = exchange.asked.target.key.copy_in_own_buffers(alloc)?;
         let content = answer.response.content.copy(alloc)?;
         let times = Times::of(&fields, exchange.request_time, answer.response_time);
-        if exchange.removes_cookies {
+        if exchange.removes_set_cookie {
             fields.remove_named(b"Set-Cookie");
         }
         fields.remove_named(b"Age");
@@ -99,7 +101,7 @@ impl NewEntry {
 
 /// Whether no request but its own may be answered by the response (RFC 9111, section 4.1).
 fn nominates_a_star_there(nomination: &Nomination) -> bool
-    ensures { result ≡ nominates_a_star nomination.now }
+    ensures { result ≡ nomination_is_star nomination.now }
 {
     match nomination {
         Nomination::Star => true,
@@ -128,9 +130,10 @@ impl<S: Shelf> Core<S> {
         nomination: &Nomination,
     ) -> bool
         requires head { head.now ≡ answered_of answer.now.response.now answer.now.response_time }
-        requires nomination { nomination.now ≡ nomination_with answer.now.exchange.now.vary head.now.fields
+        requires nomination { nomination.now
+            ≡ nomination_with_further_names answer.now.exchange.now.vary head.now.fields
             answer.now.exchange.now.asked.fields }
-        ensures { result ≡ answer_is_too_large self.now.table answer.now.exchange.now answer.now.response.now
+        ensures { result ≡ answer_is_too_large_to_store self.now.table answer.now.exchange.now answer.now.response.now
             answer.now.response_time }
     {
         let content = answer.response.content.len();
@@ -143,7 +146,7 @@ impl<S: Shelf> Core<S> {
         };
         let key = &answer.exchange.asked.target.key;
         let lines = head.fields.as_slice();
-        let weight = weight_of_parts(key, nominated.as_slice(), lines, content);
+        let weight = weight_of_entry_parts(key, nominated.as_slice(), lines, content);
         weight_exceeds_optional_bound(self.config.max_store(), weight)
     }
 
@@ -157,7 +160,8 @@ impl<S: Shelf> Core<S> {
     ) -> StoringFacts
         requires head { head.now ≡ answered_of answer.now.response.now answer.now.response_time }
         requires directives { directives.now ≡ occurrences_of head.now.fields }
-        requires nomination { nomination.now ≡ nomination_with answer.now.exchange.now.vary head.now.fields
+        requires nomination { nomination.now
+            ≡ nomination_with_further_names answer.now.exchange.now.vary head.now.fields
             answer.now.exchange.now.asked.fields }
         ensures { result ≡ storing_facts_of_answer self.now.table answer.now.exchange.now answer.now.response.now
             answer.now.response_time self.now.next }
@@ -168,7 +172,7 @@ impl<S: Shelf> Core<S> {
         StoringFacts {
             policy,
             vary_star: nominates_a_star_there(nomination),
-            listed: lists_cache_field(&response.fields),
+            listed: connection_names_caching_field(&response.fields),
             explicit: lifetime.explicit,
             validator: has_validator(&head.fields),
             too_large: self.is_too_large(answer, head, nomination),
@@ -188,9 +192,10 @@ impl<S: Shelf> Core<S> {
     ) -> Result<Option<StoreRule>, AllocError>
         requires head { head.now ≡ answered_of answer.now.response.now answer.now.response_time }
         requires directives { directives.now ≡ occurrences_of head.now.fields }
-        requires nomination { nomination.now ≡ nomination_with answer.now.exchange.now.vary head.now.fields
+        requires nomination { nomination.now
+            ≡ nomination_with_further_names answer.now.exchange.now.vary head.now.fields
             answer.now.exchange.now.asked.fields }
-        ensures { IfOk result (λ rule. rule ≡ storage_rule_of answer.now.exchange.now.asked head.now
+        ensures { IfOk result (λ rule. rule ≡ rule_against_storing answer.now.exchange.now.asked head.now
             (storing_facts_of_answer self.now.table answer.now.exchange.now answer.now.response.now
             answer.now.response_time
             self.now.next)) }
@@ -204,7 +209,7 @@ impl<S: Shelf> Core<S> {
 
     /// What is told of the storing rule that stands against an answer.
     fn rule_shown(&self, answer: &OriginAnswer<'_>, rule: Option<StoreRule>) -> Option<StoreRule>
-        requires { rule ≡ storage_rule_of answer.now.exchange.now.asked
+        requires { rule ≡ rule_against_storing answer.now.exchange.now.asked
             (answered_of answer.now.response.now answer.now.response_time) (storing_facts_of_answer self.now.table
             answer.now.exchange.now answer.now.response.now answer.now.response_time self.now.next) }
         ensures { result ≡ storing_rule_to_explain self.now.table answer.now.exchange.now answer.now.response.now
@@ -219,12 +224,12 @@ impl<S: Shelf> Core<S> {
 
     /// Whether an answer is stored: the serial, the nominated values and the directives of the stored response that
     /// it makes, or what is told of why it isn't.
-    pub(crate) fn admit(
+    pub(crate) fn decide_storage(
         &self,
         alloc: Global,
         answer: &OriginAnswer<'_>,
         head: &Answered,
-    ) -> Result<Admission, AllocError>
+    ) -> Result<StorageDecision, AllocError>
         requires { head.now ≡ answered_of answer.now.response.now answer.now.response_time }
         ensures rule { IfOk result
             (λ admission. admission.rule ≡ storing_rule_to_explain self.now.table answer.now.exchange.now
@@ -233,7 +238,7 @@ impl<S: Shelf> Core<S> {
             ≡ serial_of_stored_answer
             self.now.table answer.now.exchange.now answer.now.response.now answer.now.response_time self.now.next) }
         ensures nominated { IfOk result (λ admission. IfSome admission.new_entry
-            (λ n. n.nominated ≡ nominated_values_with answer.now.exchange.now.vary head.now.fields
+            (λ n. n.nominated ≡ nominated_values_with_further_names answer.now.exchange.now.vary head.now.fields
             answer.now.exchange.now.asked.fields)) }
         ensures directives { IfOk result (λ admission. IfSome admission.new_entry
             (λ n. n.directives ≡ occurrences_of head.now.fields)) }
@@ -249,15 +254,15 @@ impl<S: Shelf> Core<S> {
         let rule = self.rule_against(alloc, answer, head, &directives, &nomination)?;
         let shown = self.rule_shown(answer, rule);
         if rule.is_some() {
-            return Ok(Admission::not_stored(shown));
+            return Ok(StorageDecision::not_stored(shown));
         }
         the_least_storage_rule_is_named();
         let serial = match self.next {
             Some(serial) => serial,
-            None => return Ok(Admission::not_stored(shown)),
+            None => return Ok(StorageDecision::not_stored(shown)),
         };
         match nomination {
-            Nomination::Names(nominated) => Ok(Admission {
+            Nomination::Names(nominated) => Ok(StorageDecision {
                 rule: shown,
                 new_entry: Some(NewEntry {
                     serial,
@@ -265,7 +270,7 @@ impl<S: Shelf> Core<S> {
                     directives,
                 }),
             }),
-            Nomination::Star => Ok(Admission::not_stored(shown)),
+            Nomination::Star => Ok(StorageDecision::not_stored(shown)),
         }
     }
 }
@@ -278,7 +283,7 @@ pub(crate) fn serials_replaced_by_storing<S: Shelf>(
 ) -> Result<Serials, AllocError>
     ensures { IfOk result (λ replaced. replaced ≡ serials_replaced_by_storing (S.entries shelf.now) asked.now) }
 {
-    shelf.find_matching(alloc, &asked.target.key, &asked.fields)
+    shelf.find_matching_serials(alloc, &asked.target.key, &asked.fields)
 }
 
 /// What goes for an answer that isn't stored.

@@ -1,15 +1,16 @@
 //! What a 304 to the proxy's conditions does (RFC 9111, section 4.3).
 ghost use Rattle.std.specs.Prelude.{◌≡◌, ◌<◌, ◌∷◌, [], None, IfOk, option_copied, cond};
 ghost use Rattle.hx_hop.specs.Answering.{answered_of};
-ghost use Rattle.hx_vary.specs.Vary.{vary_is_star};
+ghost use Rattle.hx_vary.specs.Vary.{vary_counts_as_star};
 ghost use Rattle.hx_allow.specs.Matching.{policy_of};
 ghost use Rattle.hx_reuse.specs.Rules.{decision_of};
 ghost use Rattle.proxy_core.specs.declared.event.Event.TheVariants.{Answer};
 ghost use Rattle.proxy_core.specs.Outcomes.{outcome_of_sending_freshened, outcome_of_304};
-ghost use Rattle.proxy_core.specs.Pending.{outcome_of_pending_reply, outcome_after_answer, AnswerLeavesHeldAsStepDoes};
-ghost use Rattle.proxy_core.specs.Pending.{AnswerChangeIsApplicable, AnswerStoresNothing, IsChangeAfterFreshening};
-ghost use Rattle.proxy_core.specs.Validating.{stored_response_is_answered, stored_response_asked_about};
-ghost use Rattle.proxy_core.specs.Validating.{stored_response_validated, times_after_304, freshened_by_304};
+ghost use Rattle.proxy_core.specs.Pending.{outcome_of_pending_reply, outcome_after_answer, HeldAfterAnswerIsThatOfStep};
+ghost use Rattle.proxy_core.specs.Pending.{AnswerChangeIsApplicable, AnswerOnlyKeepsOrUsesStored};
+ghost use Rattle.proxy_core.specs.Pending.{IsChangeAfterFreshening};
+ghost use Rattle.proxy_core.specs.Validating.{stored_response_is_answered_by_304, stored_response_asked_about};
+ghost use Rattle.proxy_core.specs.Validating.{stored_response_validated_by_304, times_after_304, freshened_by_304};
 ghost use Rattle.proxy_core.specs.Validating.{as_get_request};
 ghost use Rattle.proxy_core.specs.Validating.{head_of_stored, stored_without_cookies};
 ghost use Rattle.proxy_core.specs.Validating.{storing_facts_of_freshened, freshened_may_be_kept, stored_is_too_large};
@@ -19,16 +20,16 @@ use crate::core_state::Core;
 use crate::open::exchange::Exchange;
 use crate::replies::origin_answer::OriginAnswer;
 use crate::replies::pending::{AfterAnswer, Change, PendingReply};
-use crate::replies::stored_reply::{CacheStatusInfo, StoredReply};
+use crate::replies::stored_reply::{StoredCacheStatusInfo, StoredReply};
 use crate::steps::judging::judge;
 use crate::steps::sending::forward_text;
 use crate::steps::storing::weight_exceeds_optional_bound;
 use http::Method;
 use hx_age::Times;
-use hx_allow::Config;
+use hx_allow::Table;
 use hx_directives::Directives;
 use hx_framing::Response;
-use hx_hop::{Answered, Asked, lists_cache_field};
+use hx_hop::{Answered, Asked, connection_names_caching_field};
 use hx_reuse::{Decision, lifetime_under_policy};
 use hx_status::Detail;
 use hx_storable::{StoringFacts, first_rule_against};
@@ -39,10 +40,14 @@ use hx_vary::{Nominated, Nomination};
 use std::alloc::{AllocError, Global};
 
 /// Whether an answer with this head answers a held response.
-fn stored_response_is_answered(answer: &OriginAnswer<'_>, head: &Answered, entry: &Entry) -> bool
+fn stored_response_is_answered_by_304(
+    answer: &OriginAnswer<'_>,
+    head: &Answered,
+    entry: &Entry,
+) -> bool
     requires { head.now ≡ answered_of answer.now.response.now answer.now.response_time }
     ensures { result
-        ≡ stored_response_is_answered answer.now.exchange.now answer.now.response.now answer.now.response_time
+        ≡ stored_response_is_answered_by_304 answer.now.exchange.now answer.now.response.now answer.now.response_time
         entry.now }
 {
     match &answer.exchange.condition {
@@ -65,18 +70,18 @@ fn stored_response_asked_about<'a, S: Shelf>(shelf: &'a S, exchange: &Exchange) 
 }
 
 /// The held response that a 304 answers.
-fn stored_response_validated<'a, S: Shelf>(
+fn stored_response_validated_by_304<'a, S: Shelf>(
     shelf: &'a S,
     answer: &OriginAnswer<'_>,
     head: &Answered,
 ) -> Option<&'a Entry>
     requires { head.now ≡ answered_of answer.now.response.now answer.now.response_time }
     ensures { option_copied result
-        ≡ stored_response_validated
+        ≡ stored_response_validated_by_304
         (S.entries shelf.now) answer.now.exchange.now answer.now.response.now answer.now.response_time }
 {
     match stored_response_asked_about(shelf, answer.exchange) {
-        Some(entry) if stored_response_is_answered(answer, head, entry) => Some(entry),
+        Some(entry) if stored_response_is_answered_by_304(answer, head, entry) => Some(entry),
         _ => None,
     }
 }
@@ -113,15 +118,19 @@ fn freshened_by_304(
     let exchange = answer.exchange;
     let times = times_after_304(answer, head, entry);
     let fresh = freshened(alloc, &exchange.vary, entry, head, &exchange.asked, times)?;
-    without_cookies(alloc, exchange, fresh)
+    without_set_cookie_if(alloc, exchange, fresh)
 }
 
 /// What an exchange leaves of a response in the store. Mostly that is the whole of it, and nothing is copied.
 #[tactic(auto, using(crate::proofs::Cookies::stays_whole))]
-fn without_cookies(alloc: Global, exchange: &Exchange, entry: Entry) -> Result<Entry, AllocError>
+fn without_set_cookie_if(
+    alloc: Global,
+    exchange: &Exchange,
+    entry: Entry,
+) -> Result<Entry, AllocError>
     ensures { IfOk result (λ kept. kept ≡ stored_without_cookies exchange.now entry) }
 {
-    if !(exchange.removes_cookies && entry.fields.has(b"Set-Cookie")) {
+    if !(exchange.removes_set_cookie && entry.fields.has(b"Set-Cookie")) {
         return Ok(entry);
     }
     let mut fields = entry.fields.copy(alloc)?;
@@ -159,7 +168,7 @@ fn head_of_stored(alloc: Global, entry: &Entry) -> Result<Answered, AllocError>
 }
 
 /// Whether a response is above the limit of one content, or alone above that of the whole store.
-fn stored_is_too_large(config: &Config, entry: &Entry) -> bool
+fn stored_is_too_large(config: &Table, entry: &Entry) -> bool
     ensures { result ≡ stored_is_too_large config.now entry.now }
 {
     entry.content.len() as u64 > config.max_stored()
@@ -169,7 +178,7 @@ fn stored_is_too_large(config: &Config, entry: &Entry) -> bool
 /// What the storing rules ask of a freshened response.
 fn storing_facts_of_freshened(
     alloc: Global,
-    config: &Config,
+    config: &Table,
     exchange: &Exchange,
     response: &Response,
     entry: &Entry,
@@ -181,7 +190,7 @@ fn storing_facts_of_freshened(
     Ok(StoringFacts {
         policy,
         vary_star: nominates_a_star_there(alloc, &exchange.asked, entry)?,
-        listed: lists_cache_field(&response.fields),
+        listed: connection_names_caching_field(&response.fields),
         explicit: lifetime.explicit,
         validator: has_validator(&entry.fields),
         too_large: stored_is_too_large(config, entry),
@@ -192,7 +201,7 @@ fn storing_facts_of_freshened(
 
 /// Whether no request but its own may be answered by a response (RFC 9111, section 4.1).
 fn nominates_a_star_there(alloc: Global, asked: &Asked, entry: &Entry) -> Result<bool, AllocError>
-    ensures { IfOk result (λ is. is ≡ vary_is_star entry.now.fields) }
+    ensures { IfOk result (λ is. is ≡ vary_counts_as_star entry.now.fields) }
 {
     match Nominated::of(alloc, &entry.fields, &asked.fields)? {
         Nomination::Star => Ok(true),
@@ -204,7 +213,7 @@ fn nominates_a_star_there(alloc: Global, asked: &Asked, entry: &Entry) -> Result
 /// storing rule stands against it.
 fn freshened_may_be_kept(
     alloc: Global,
-    config: &Config,
+    config: &Table,
     exchange: &Exchange,
     response: &Response,
     entry: &Entry,
@@ -268,7 +277,7 @@ impl<S: Shelf> Core<S> {
             name: self.config.name(),
             entry: &entry,
             asked: &exchange.asked,
-            info: CacheStatusInfo::forwarded(policy, exchange, Some(response.status), None),
+            info: StoredCacheStatusInfo::forwarded(policy, exchange, Some(response.status), None),
             sent_at: answer.response_time,
         };
         let sent = reply.text(alloc)?;
@@ -291,18 +300,18 @@ impl<S: Shelf> Core<S> {
         ensures outcome { IfOk result (λ after. outcome_after_answer answer.now.exchange.now after
             ≡ outcome_of_304 self.now.table self.now.entries answer.now.response_time answer.now.exchange.now
             answer.now.response.now
-            (stored_response_validated self.now.entries answer.now.exchange.now answer.now.response.now
+            (stored_response_validated_by_304 self.now.entries answer.now.exchange.now answer.now.response.now
             answer.now.response_time) (decision_of (policy_of self.now.table.lines answer.now.exchange.now.line)
             self.now.entries answer.now.exchange.now.asked answer.now.response_time)) }
         ensures leaves { IfOk result
-            (λ after. AnswerLeavesHeldAsStepDoes (bounds_of self.now.table self.now.limit) self.now.entries
+            (λ after. HeldAfterAnswerIsThatOfStep (bounds_of self.now.table self.now.limit) self.now.entries
             answer.now.exchange.now
             (Answer answer.now.response_time answer.now.exchange.now.id answer.now.response.now) after) }
         ensures fits { IfOk result (λ after. AnswerChangeIsApplicable self.now.next self.now.entries after) }
     {
         let head = answer.head(alloc)?;
         same_keys_are_equal_records();
-        match stored_response_validated(&self.shelf, answer, &head) {
+        match stored_response_validated_by_304(&self.shelf, answer, &head) {
             Some(entry) => {
                 let fresh = freshened_by_304(alloc, answer, &head, entry)?;
                 let pending = self.send_refreshed(alloc, answer, fresh)?;
@@ -322,7 +331,7 @@ impl<S: Shelf> Core<S> {
             ≡ outcome_of_304 self.now.table self.now.entries answer.now.response_time answer.now.exchange.now
             answer.now.response.now None (decision_of (policy_of self.now.table.lines answer.now.exchange.now.line)
             self.now.entries answer.now.exchange.now.asked answer.now.response_time)) }
-        ensures plain { IfOk result AnswerStoresNothing }
+        ensures plain { IfOk result AnswerOnlyKeepsOrUsesStored }
     {
         let exchange = answer.exchange;
         let asked = &exchange.asked;
@@ -332,7 +341,7 @@ impl<S: Shelf> Core<S> {
             Decision::Hit(serial) => {
                 let came = Some(answer.response.status);
                 let detail = Some(Detail::ReuseAfter304);
-                let info = CacheStatusInfo::forwarded(policy, exchange, came, detail);
+                let info = StoredCacheStatusInfo::forwarded(policy, exchange, came, detail);
                 let pending = self.send(alloc, serial, now, info, asked)?;
                 Ok(AfterAnswer::Ends(pending))
             }

@@ -5,19 +5,19 @@ ghost use Rattle.hx_reuse.specs.Rules.{decision_of};
 ghost use Rattle.hx_reuse.specs.declared.decision.Decision.TheVariants as decision;
 ghost use Rattle.proxy_core.specs.AnsweredRequests.{request_answered};
 ghost use Rattle.proxy_core.specs.Outcomes.{find_exchange, outcome_of_wake};
-ghost use Rattle.proxy_core.specs.Pending.{ChangeStoresNothing};
+ghost use Rattle.proxy_core.specs.Pending.{ChangeOnlyKeepsOrUses};
 ghost use Rattle.proxy_core.specs.Waking.{AfterWakeMatchesDecision};
 ghost use Rattle.proxy_core.specs.declared.event.Event.TheVariants.{Wake};
-ghost use Rattle.proxy_core.specs.State.{StepIsAccepted, StepIsRefusedWith, exchange_sent_forward};
+ghost use Rattle.proxy_core.specs.State.{StepIsAccepted, StepIsRefusedWith, exchange_sent_forward_if_of_id};
 
 use crate::core_fault::CoreFault;
 use crate::core_state::Core;
-use crate::moments::moment_fault;
+use crate::moments::fault_if_moment_too_late;
 use crate::open::exchange::Exchange;
 use crate::outcome::{Outcome, Step};
 use crate::replies::pending::PendingReply;
-use crate::replies::stored_reply::CacheStatusInfo;
-use crate::steps::condition::{Condition, condition_about_serial};
+use crate::replies::stored_reply::StoredCacheStatusInfo;
+use crate::steps::condition::{Condition, condition_to_revalidate_serial};
 use crate::steps::judging::judge;
 use crate::steps::sending::forward_text;
 use hx_fields::Bytes;
@@ -50,12 +50,12 @@ impl<S: Shelf> Core<S> {
         let policy = self.config.policy(exchange.line);
         match judge(alloc, &self.shelf, asked, now, policy)? {
             Decision::Hit(serial) => {
-                let info = CacheStatusInfo::collapsed(policy, exchange);
+                let info = StoredCacheStatusInfo::collapsed(policy, exchange);
                 let pending = self.send(alloc, serial, now, info, asked)?;
                 Ok(AfterWake::Ends(pending))
             }
             Decision::Forward(rule, named) => {
-                let condition = condition_about_serial(alloc, &self.shelf, named)?;
+                let condition = condition_to_revalidate_serial(alloc, &self.shelf, named)?;
                 let bytes = forward_text(
                     alloc,
                     &self.config,

@@ -11,14 +11,17 @@
 ghost use Rattle.std.specs.Net.Text.{socket_text};
 ghost use Rattle.std.specs.Prelude.{◌≡◌, ◌<◌, ◌≤◌, ◌++◌, length, take, drop, false, [], Some, None, Ok, IfOk, OnOk};
 ghost use Rattle.std.specs.Prelude.{OnErr};
-ghost use Rattle.proxy_ends.specs.Timeouts.{client_is_half_closed_too_long, has_lasted_longer, milliseconds_since};
+ghost use Rattle.proxy_ends.specs.Timeouts.{client_is_half_closed_and_idle_too_long, has_lasted_longer};
+ghost use Rattle.proxy_ends.specs.Timeouts.{milliseconds_since};
 ghost use Rattle.proxy_ends.specs.GivingWay.{client_is_quiet_for_a_second, client_takes_nothing_for_a_second};
 ghost use Rattle.proxy_reads.specs.Received.{ReceivedBytesAreAtMostRoom};
-ghost use Rattle.proxy_ends.specs.Departures.{unanswered_departure_of, client_after_departure};
-ghost use Rattle.proxy_ends.specs.Logging.{LineAboutReplyIsAdded, LineOfLoggedIsAdded, LogBeginsNextRequest};
+ghost use Rattle.proxy_ends.specs.Departures.{unanswered_departure_of, client_with_departure_told};
+ghost use Rattle.proxy_ends.specs.Logging.{LineAboutReplyIsAddedIfLogged, LineOfLoggedIsAddedOrLost};
+ghost use Rattle.proxy_ends.specs.Logging.{LogBeginsNextRequest};
 ghost use Rattle.proxy_ends.specs.Logging.{PieceIsKeptForTheLog};
 ghost use Rattle.proxy_ends.specs.Logging.{logged_address};
-ghost use Rattle.proxy_ends.specs.Streams.{client_has_bytes_not_handed_in, client_may_have_input, rest_bytes};
+ghost use Rattle.proxy_ends.specs.Streams.{client_has_bytes_not_handed_in, client_may_have_input};
+ghost use Rattle.proxy_ends.specs.Streams.{input_bytes_not_handed_in};
 ghost use Rattle.proxy_ends.specs.Streams.{ClientIsRead};
 ghost use Rattle.proxy_ends.specs.Streams.{client_number_of_place, client_is_idle, new_client, ClosedClientIsReadOn};
 
@@ -27,7 +30,7 @@ use crate::limits::SECOND;
 use crate::replies::Reply;
 use proxy_figures::UnansweredCause;
 use proxy_log::{Lines, LoggedRequest, ReplyObservation, RequestLine};
-use proxy_pacing::{LEAST_PIECE_BYTES, Rest, StreamQueue, head_end};
+use proxy_pacing::{ClosedStreamQueue, InputNotHandedIn, LEAST_PIECE_BYTES, head_end};
 use proxy_reads::Received;
 use proxy_streams::{Peer, Socket, Stream};
 use std::alloc::{AllocError, Global};
@@ -36,11 +39,11 @@ use std::net::SocketAddr;
 
 /// Where a client's stream stands.
 #[derive(Clone, Copy, PartialEq, Eq)]
-pub enum Place {
+pub enum ClientStreamState {
     /// The engine knows it by this number.
     Open(u64),
     /// It was closed, and stands in a queue, since it had this stamp.
-    In(StreamQueue, u64),
+    In(ClosedStreamQueue, u64),
 }
 
 /// What a log needs of a client.
@@ -55,7 +58,7 @@ pub struct LoggedClient {
 impl LoggedClient {
     /// Adds the line about a reply: it names what the reply says that it answers, else what the request line says.
     fn log_reply(&self, reply: &Reply<'_>, lines: &mut Lines)
-        ensures { LineOfLoggedIsAdded self.now reply.now lines.old lines.new }
+        ensures { LineOfLoggedIsAddedOrLost self.now reply.now lines.old lines.new }
     {
         let seen = ReplyObservation {
             moment: reply.moment,
@@ -66,7 +69,7 @@ impl LoggedClient {
         let about = &reply.replied.about;
         match &reply.replied.question {
             Some(question) => {
-                lines.add_reply(&LoggedRequest::of_question(question), about, &seen);
+                lines.add_reply(&LoggedRequest::of_replied_question(question), about, &seen);
             }
             None => lines.add_reply(&self.line.asked(), about, &seen),
         }
@@ -77,9 +80,9 @@ impl LoggedClient {
 pub struct Client<S: Stream + Drop = Socket> {
     pub peer: Peer<S>,
     alloc: Global,
-    pub place: Place,
+    pub place: ClientStreamState,
     /// What came behind the head of a request, and wasn't handed in yet.
-    rest: Option<Rest>,
+    rest: Option<InputNotHandedIn>,
     /// When the first byte of its request came, if its request isn't answered.
     pub asked: Option<u64>,
     /// Something of a request was handed in that wasn't answered yet.
@@ -141,7 +144,7 @@ impl<S: Stream + Drop> Client<S> {
         Client {
             peer,
             alloc,
-            place: Place::Open(n),
+            place: ClientStreamState::Open(n),
             rest: None,
             asked: None,
             is_begun: false,
@@ -164,8 +167,8 @@ impl<S: Stream + Drop> Client<S> {
         ensures { result ≡ client_number_of_place self.now.place }
     {
         match self.place {
-            Place::Open(n) => Some(n),
-            Place::In(_, _) => None,
+            ClientStreamState::Open(n) => Some(n),
+            ClientStreamState::In(_, _) => None,
         }
     }
 
@@ -182,7 +185,7 @@ impl<S: Stream + Drop> Client<S> {
     }
 
     /// Takes what came, for a log: of a request that isn't answered yet its request line is kept.
-    pub fn read_piece(&mut self, piece: &[u8])
+    pub fn keep_piece_for_log(&mut self, piece: &[u8])
         ensures { PieceIsKeptForTheLog piece.now self.old.logged self.new.logged }
     {
         if let Some(logged) = &mut self.logged {
@@ -196,7 +199,7 @@ impl<S: Stream + Drop> Client<S> {
         cause: UnansweredCause,
     ) -> Option<UnansweredDeparture>
         ensures told { result ≡ unanswered_departure_of cause self.old }
-        ensures rest { self.new ≡ client_after_departure self.old }
+        ensures rest { self.new ≡ client_with_departure_told self.old }
     {
         if !self.is_begun {
             return None;
@@ -222,7 +225,7 @@ impl<S: Stream + Drop> Client<S> {
     /// Adds the line about a reply, where a log is kept. Of the next request nothing has come then. Where there is
     /// neither room nor memory for the line, it is lost, and counted.
     pub fn log_reply(&mut self, reply: &Reply<'_>, lines: &mut Lines)
-        ensures line { LineAboutReplyIsAdded self.old.logged reply.now lines.old lines.new }
+        ensures line { LineAboutReplyIsAddedIfLogged self.old.logged reply.now lines.old lines.new }
         ensures next { LogBeginsNextRequest self.old.logged self.new.logged }
     {
         if let Some(logged) = &mut self.logged {
@@ -233,14 +236,15 @@ impl<S: Stream + Drop> Client<S> {
 
     /// Keeps what came and isn't handed in yet. An `Err` changes nothing.
     fn keep(&mut self, piece: &[u8]) -> Result<(), AllocError>
-        ensures kept { OnOk result (rest_bytes self.new.rest ≡ rest_bytes self.old.rest ++ piece.now) }
-        ensures err { OnErr result (rest_bytes self.new.rest ≡ rest_bytes self.old.rest) }
+        ensures kept { OnOk result
+            (input_bytes_not_handed_in self.new.rest ≡ input_bytes_not_handed_in self.old.rest ++ piece.now) }
+        ensures err { OnErr result (input_bytes_not_handed_in self.new.rest ≡ input_bytes_not_handed_in self.old.rest) }
         ensures peer { self.new.peer ≡ self.old.peer }
     {
         match &mut self.rest {
             Some(rest) => rest.keep(piece),
             None => {
-                let mut rest = Rest::new(self.alloc);
+                let mut rest = InputNotHandedIn::new(self.alloc);
                 rest.keep(piece)?;
                 self.rest = Some(rest);
                 Ok(())
@@ -249,7 +253,7 @@ impl<S: Stream + Drop> Client<S> {
     }
 
     /// Whether something has come that wasn't handed in yet.
-    pub fn has_rest(&self) -> bool
+    pub fn has_bytes_not_handed_in(&self) -> bool
         ensures { result ≡ client_has_bytes_not_handed_in self.now.rest }
     {
         match &self.rest {
@@ -259,7 +263,7 @@ impl<S: Stream + Drop> Client<S> {
     }
 
     /// Drops what has come and wasn't handed in.
-    pub fn drop_rest(&mut self)
+    pub fn drop_bytes_not_handed_in(&mut self)
         ensures { self.new ≡ record self.old { rest = None } }
     {
         self.rest = None;
@@ -277,7 +281,7 @@ impl<S: Stream + Drop> Client<S> {
 
     /// Whether it has sent its end, and for more than so many milliseconds nothing was written since.
     pub fn is_half_closed_too_long(&self, now: u64, limit: u64) -> bool
-        ensures { result ≡ client_is_half_closed_too_long now self.now.left self.now.peer.heard limit }
+        ensures { result ≡ client_is_half_closed_and_idle_too_long now self.now.left self.now.peer.heard limit }
     {
         match self.left {
             Some(left) => now.saturating_sub(left.max(self.peer.heard)) > limit,
@@ -303,7 +307,7 @@ impl<S: Stream + Drop> Client<S> {
     pub fn may_have_input(&self) -> bool
         ensures { result ≡ client_may_have_input self.now }
     {
-        !self.peer.has_unsent() && (self.peer.readable || self.has_rest())
+        !self.peer.has_unsent() && (self.peer.readable || self.has_bytes_not_handed_in())
     }
 
     /// Whether it is between two requests: nothing of one was handed in, nor is to be.
@@ -311,8 +315,8 @@ impl<S: Stream + Drop> Client<S> {
         ensures { result ≡ client_is_idle self.now }
     {
         match self.place {
-            Place::Open(_) => !self.is_begun && !self.has_rest(),
-            Place::In(_, _) => false,
+            ClientStreamState::Open(_) => !self.is_begun && !self.has_bytes_not_handed_in(),
+            ClientStreamState::In(_, _) => false,
         }
     }
 
@@ -349,7 +353,8 @@ impl<S: Stream + Drop> Client<S> {
     fn keep_rest(&mut self, piece: &[u8], least: usize) -> usize
         ensures within { result ≤ length piece.now }
         ensures some { 0 < length piece.now → 0 < result }
-        ensures kept { rest_bytes self.old.rest ≡ [] → take result piece.now ++ rest_bytes self.new.rest ≡ piece.now }
+        ensures kept { input_bytes_not_handed_in self.old.rest ≡ [] → take result piece.now
+            ++ input_bytes_not_handed_in self.new.rest ≡ piece.now }
         ensures peer { self.new.peer ≡ self.old.peer }
     {
         let end = head_end(piece, least);
@@ -364,7 +369,7 @@ impl<S: Stream + Drop> Client<S> {
 
     /// Reads a piece of what has come, if anything may have, behind what was kept. From one that still has to take what
     /// was written nothing is read.
-    pub fn read_piece_behind_rest(&mut self, buf: &mut [u8], now: u64) -> io::Result<Received>
+    pub fn read_piece_behind_kept_input(&mut self, buf: &mut [u8], now: u64) -> io::Result<Received>
         ensures within { IfOk result (ReceivedBytesAreAtMostRoom (length buf.old)) }
         ensures length { length buf.new ≡ length buf.old }
         ensures takes_first { 0 < length self.old.peer.unsent.bytes → (self.new ≡ self.old)
@@ -381,8 +386,9 @@ impl<S: Stream + Drop> Client<S> {
     fn give_rest(&mut self, buf: &mut [u8], least: usize) -> usize
         ensures within { result ≤ length buf.old }
         ensures length { length buf.new ≡ length buf.old }
-        ensures some { 0 < length buf.old → 0 < length (rest_bytes self.old.rest) → 0 < result }
-        ensures given { take result buf.new ++ rest_bytes self.new.rest ≡ rest_bytes self.old.rest }
+        ensures some { 0 < length buf.old → 0 < length (input_bytes_not_handed_in self.old.rest) → 0 < result }
+        ensures given { take result buf.new ++ input_bytes_not_handed_in self.new.rest
+            ≡ input_bytes_not_handed_in self.old.rest }
         ensures peer { self.new.peer ≡ self.old.peer }
     {
         let Some(rest) = &mut self.rest else {
@@ -422,7 +428,7 @@ impl<S: Stream + Drop> Client<S> {
     fn read_stream(&mut self, buf: &mut [u8], least: usize, now: u64) -> io::Result<Received>
         ensures within { IfOk result (ReceivedBytesAreAtMostRoom (length buf.old)) }
         ensures length { length buf.new ≡ length buf.old }
-        ensures handed_in { rest_bytes self.old.rest ≡ [] → IfOk result
+        ensures handed_in { input_bytes_not_handed_in self.old.rest ≡ [] → IfOk result
             (λ received. ClientIsRead S.Passed received buf.new self.old self.new) }
     {
         match self.peer.read(buf, now)? {

@@ -6,15 +6,16 @@ ghost use Rattle.std.specs.Prelude.{◌≡◌, ◌<◌, length};
 ghost use Rattle.std.specs.Ordering.{nat_cmp};
 ghost use Rattle.std.specs.BTreeMap.{get};
 ghost use Rattle.proxy_ends.specs.Closing.{ClosedStreamsAreBounded, ClientIsInQueue, AtMostOneOtherStreamIsDropped};
-ghost use Rattle.proxy_ends.specs.Closing.{StreamIsClosedByNumber, InputIsDropped, IsInLeavingQueueIfUnsent};
+ghost use Rattle.proxy_ends.specs.Closing.{ClosingByNumberDropsAtMostOneOther, InputIsDropped};
+ghost use Rattle.proxy_ends.specs.Closing.{IsInLeavingQueueIfUnsent};
 ghost use Rattle.proxy_ends.specs.Closing.{HasUnsentBytesOrIsAbsent};
-ghost use Rattle.proxy_ends.specs.Streams.{client_at, stream_at_number};
+ghost use Rattle.proxy_ends.specs.Streams.{client_at, client_at_number};
 
 use crate::clients::Clients;
 use crate::clients::client::Client;
 use crate::limits::MOST_LINGERING_CONNECTIONS;
 use proxy_figures::UnansweredCause;
-use proxy_pacing::StreamQueue;
+use proxy_pacing::ClosedStreamQueue;
 use proxy_reads::{PIECE, Received};
 use proxy_streams::Stream;
 
@@ -36,7 +37,7 @@ fn drop_input<S: Stream + Drop>(client: &mut Client<S>, now: u64) -> StillToWait
 {
     let mut buf = [0u8; PIECE];
     for _piece in 0..MOST_PIECES_DROPPED {
-        match client.read_piece_behind_rest(&mut buf, now) {
+        match client.read_piece_behind_kept_input(&mut buf, now) {
             Ok(Received::Bytes(_)) => {}
             Ok(Received::Nothing) => return StillToWait::Yes,
             Ok(Received::End) => return StillToWait::No,
@@ -67,9 +68,10 @@ impl<S: Stream + Drop> Clients<S> {
     /// has.
     #[tactic(auto, using(crate::proofs::Closings::none_goes, crate::proofs::Closings::closes_at, crate::proofs::Closings::closes_none))]
     pub fn close(&mut self, n: u64, now: u64)
-        ensures others { StreamIsClosedByNumber (get nat_cmp self.old.open n) self.old.streams self.new.streams }
-        ensures leaves { IsInLeavingQueueIfUnsent (stream_at_number self.old.open self.old.streams n)
-            (stream_at_number self.old.open self.new.streams n) }
+        ensures others { ClosingByNumberDropsAtMostOneOther
+            (get nat_cmp self.old.open n) self.old.streams self.new.streams }
+        ensures leaves { IsInLeavingQueueIfUnsent (client_at_number self.old.open self.old.streams n)
+            (client_at_number self.old.open self.new.streams n) }
     {
         let Some(key) = self.remove_number(n) else {
             return;
@@ -80,11 +82,11 @@ impl<S: Stream + Drop> Clients<S> {
         client.peer.heard = now;
         client.closed = now;
         // What came and wasn't handed in is dropped with what still comes.
-        client.drop_rest();
+        client.drop_bytes_not_handed_in();
         let queue = if client.peer.has_unsent() {
-            StreamQueue::Leaving
+            ClosedStreamQueue::Leaving
         } else {
-            StreamQueue::Lingering
+            ClosedStreamQueue::Lingering
         };
         self.join_queue(key, queue);
         self.end(key, now);
@@ -113,11 +115,11 @@ impl<S: Stream + Drop> Clients<S> {
 
     /// A closed connection whose client has taken everything. Beyond the most of these the first is closed whole.
     fn linger_after_close(&mut self, key: usize)
-        ensures bound { ClientIsInQueue StreamQueue.Lingering (client_at self.old.streams key)
+        ensures bound { ClientIsInQueue ClosedStreamQueue.Lingering (client_at self.old.streams key)
             → ClosedStreamsAreBounded self.old.queues.lingering self.old.streams self.new.streams }
         ensures others { AtMostOneOtherStreamIsDropped key self.old.streams self.new.streams }
     {
-        self.move_to_queue(key, StreamQueue::Lingering);
+        self.move_to_queue(key, ClosedStreamQueue::Lingering);
         self.drop_first();
     }
 
@@ -125,8 +127,8 @@ impl<S: Stream + Drop> Clients<S> {
     fn drop_first(&mut self)
         ensures { ClosedStreamsAreBounded self.old.queues.lingering self.old.streams self.new.streams }
     {
-        if self.queues.len(StreamQueue::Lingering) > MOST_LINGERING_CONNECTIONS {
-            if let Some(first) = self.queues.first(StreamQueue::Lingering) {
+        if self.queues.len(ClosedStreamQueue::Lingering) > MOST_LINGERING_CONNECTIONS {
+            if let Some(first) = self.queues.first(ClosedStreamQueue::Lingering) {
                 self.drop_stream(first, UnansweredCause::Closed);
             }
         }
@@ -139,8 +141,9 @@ impl<S: Stream + Drop> Clients<S> {
         }
         self.more = false;
         let mut from = 0u64;
-        for _ in 0..self.queues.len(StreamQueue::Lingering) {
-            let Some((stamp, key)) = self.queues.next_from(StreamQueue::Lingering, from) else {
+        for _ in 0..self.queues.len(ClosedStreamQueue::Lingering) {
+            let Some((stamp, key)) = self.queues.next_from(ClosedStreamQueue::Lingering, from)
+            else {
                 return;
             };
             from = stamp.saturating_add(1);

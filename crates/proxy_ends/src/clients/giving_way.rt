@@ -24,7 +24,7 @@ pub struct LargestHeldClient {
 impl<S: Stream + Drop> Clients<S> {
     /// A client whose request isn't answered yet stands among those that may give way. Without memory for that it gives
     /// way to nobody.
-    pub fn mark_request_begun(&mut self, key: usize, now: u64)
+    pub fn list_as_droppable_for_room(&mut self, key: usize, now: u64)
         ensures open { self.new.open ≡ self.old.open }
         ensures others { StreamsOfOtherKeysStay key self.old.streams self.new.streams }
     {
@@ -75,7 +75,7 @@ impl<S: Stream + Drop> Clients<S> {
             if number.is_some() {
                 return number;
             }
-            self.mark_request_begun(key, now);
+            self.list_as_droppable_for_room(key, now);
         }
         None
     }

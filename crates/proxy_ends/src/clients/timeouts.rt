@@ -3,26 +3,32 @@ ghost use Rattle.std.specs.Prelude.{◌≡◌, ◌<◌, ◌-◌, ◌⊎◌, true
 ghost use Rattle.proxy_ends.specs.Timeouts.{close_timeout_is_over, has_lasted_longer, incomplete_since};
 ghost use Rattle.proxy_ends.specs.Timeouts.{client_is_silent, client_is_absent_or_half_closed_too_long};
 ghost use Rattle.proxy_ends.specs.Timeouts.{IsIdleClientWithNumber};
-ghost use Rattle.proxy_ends.specs.Timeouts.{client_has_waited_seconds, end_of_wait_if_limited};
+ghost use Rattle.proxy_ends.specs.Timeouts.{client_waited_seconds_for_another, end_of_wait_of_client_if_any};
 ghost use Rattle.proxy_ends.specs.OtherEntries.{StreamsOfOtherKeysStay, ChangesOnlyAtNumber};
-ghost use Rattle.proxy_ends.specs.Streams.{stream_at_number, client_at};
+ghost use Rattle.proxy_ends.specs.Streams.{client_at_number, client_at};
 
 use crate::clients::Clients;
-use crate::clients::client::{Client, Place};
+use crate::clients::client::{Client, ClientStreamState};
 use crate::limits::{
-    CLOSE_TIMEOUT_MILLISECONDS, FIRST_REQUEST_MILLISECONDS, LINGER_MILLISECONDS, Limits, SECOND,
+    CLOSE_TIMEOUT_MILLISECONDS, DRAINING_FIRST_REQUEST_MILLISECONDS, LINGER_MILLISECONDS, Limits,
+    SECOND,
 };
-use proxy_figures::{CutReason, Lateness, UnansweredCause};
-use proxy_pacing::StreamQueue;
+use proxy_figures::{CutReason, ExceededClientLimit, UnansweredCause};
+use proxy_pacing::ClosedStreamQueue;
 
 /// Whether a client that was closed has had its time.
-fn close_timeout_is_over(client: &Client, queue: StreamQueue, limits: &Limits, now: u64) -> bool
+fn close_timeout_is_over(
+    client: &Client,
+    queue: ClosedStreamQueue,
+    limits: &Limits,
+    now: u64,
+) -> bool
     ensures { result ≡ close_timeout_is_over queue limits.now now client.now.peer.heard client.now.closed }
 {
     let quiet = now.saturating_sub(client.peer.heard);
     match queue {
-        StreamQueue::Leaving => quiet > limits.client_timeout.min(CLOSE_TIMEOUT_MILLISECONDS),
-        StreamQueue::Lingering => quiet > LINGER_MILLISECONDS
+        ClosedStreamQueue::Leaving => quiet > limits.client_timeout.min(CLOSE_TIMEOUT_MILLISECONDS),
+        ClosedStreamQueue::Lingering => quiet > LINGER_MILLISECONDS
             || now.saturating_sub(client.closed) > CLOSE_TIMEOUT_MILLISECONDS,
     }
 }
@@ -51,13 +57,13 @@ fn is_late_or_silent(client: &mut Client, limits: &Limits, now: u64) -> bool
 fn first_overtime_moment(client: &Client, limits: &Limits) -> u64 {
     let heard = client.peer.heard;
     let mut next = match client.place {
-        Place::In(StreamQueue::Lingering, _) => heard
+        ClientStreamState::In(ClosedStreamQueue::Lingering, _) => heard
             .saturating_add(LINGER_MILLISECONDS)
             .min(client.closed.saturating_add(CLOSE_TIMEOUT_MILLISECONDS)),
-        Place::In(StreamQueue::Leaving, _) => heard.saturating_add(
+        ClientStreamState::In(ClosedStreamQueue::Leaving, _) => heard.saturating_add(
             limits.client_timeout.min(CLOSE_TIMEOUT_MILLISECONDS),
         ),
-        Place::Open(_) => heard.saturating_add(limits.client_timeout),
+        ClientStreamState::Open(_) => heard.saturating_add(limits.client_timeout),
     };
     if let Some(asked) = client.asked {
         next = next.min(asked.saturating_add(limits.request_timeout));
@@ -82,25 +88,25 @@ impl Clients {
     }
 
     /// A client was looked at, and its time isn't over. Without memory for the next look, it is cut off.
-    pub fn look_again(&mut self, key: usize, now: u64)
+    pub fn reschedule_timeout_check(&mut self, key: usize, now: u64)
         ensures { StreamsOfOtherKeysStay key self.old.streams self.new.streams }
     {
         let look = self.next_look(key, now);
         if !self.schedule_check(key, look) {
-            self.cut_stream(key, CutReason::Memory);
+            self.drop_stream_and_count(key, CutReason::Memory);
         }
     }
 
     /// Looks at a client that was closed, and drops it where its time is over.
-    fn look_at_closed(&mut self, key: usize, queue: StreamQueue, now: u64) {
+    fn look_at_closed(&mut self, key: usize, queue: ClosedStreamQueue, now: u64) {
         let limits = self.limits;
         let client = self.stream(key);
         if !client.is_some_and(|it| close_timeout_is_over(it, queue, &limits, now)) {
-            self.look_again(key, now);
+            self.reschedule_timeout_check(key, now);
             return;
         }
-        if queue == StreamQueue::Leaving {
-            self.endings.count_lateness(Lateness::Client);
+        if queue == ClosedStreamQueue::Leaving {
+            self.endings.count_lateness(ExceededClientLimit::Client);
         }
         self.drop_stream(key, UnansweredCause::Closed);
     }
@@ -108,13 +114,13 @@ impl Clients {
     /// The number of a client that is to be looked at now, if the engine knows it. Others are looked at here.
     pub fn next_to_check_timeout(&mut self, now: u64) -> Option<u64> {
         for _ in 0..self.len() {
-            let key = self.looks.take_due(now)? as usize;
+            let key = self.looks.take_earliest_due(now)? as usize;
             let Some(client) = self.stream(key) else {
                 continue;
             };
             match client.place {
-                Place::Open(n) => return Some(n),
-                Place::In(queue, _) => self.look_at_closed(key, queue, now),
+                ClientStreamState::Open(n) => return Some(n),
+                ClientStreamState::In(queue, _) => self.look_at_closed(key, queue, now),
             }
         }
         None
@@ -127,7 +133,7 @@ impl Clients {
     {
         let (key, since) = self.longest_idle_client()?;
         let client = self.stream(key)?;
-        if now.saturating_sub(since) > FIRST_REQUEST_MILLISECONDS {
+        if now.saturating_sub(since) > DRAINING_FIRST_REQUEST_MILLISECONDS {
             return client.number();
         }
         None
@@ -143,11 +149,11 @@ impl Clients {
             return UnansweredCause::Closed;
         };
         let lateness = if client.left.is_some() {
-            Lateness::Abandon
+            ExceededClientLimit::Abandon
         } else if client.is_request_late(now, limits.request_timeout) {
-            Lateness::Request
+            ExceededClientLimit::Request
         } else {
-            Lateness::Client
+            ExceededClientLimit::Client
         };
         self.endings.count_lateness(lateness);
         UnansweredCause::of_late_client(lateness)
@@ -157,7 +163,7 @@ impl Clients {
     /// One that isn't there has.
     pub fn is_silent(&self, n: u64, now: u64) -> bool
         ensures { result ≡ client_is_silent self.now.limits.client_timeout now
-            (stream_at_number self.now.open self.now.streams n) }
+            (client_at_number self.now.open self.now.streams n) }
     {
         match self.get(n) {
             Some(client) => {
@@ -171,7 +177,7 @@ impl Clients {
     /// Whether the request of a client, which is incomplete, has taken too long, or the client is silent. One that
     /// isn't there is.
     pub fn is_late_or_silent(&mut self, n: u64, now: u64) -> bool
-        ensures gone { stream_at_number self.old.open self.old.streams n ≡ None → result ≡ true }
+        ensures gone { client_at_number self.old.open self.old.streams n ≡ None → result ≡ true }
         ensures open { self.new.open ≡ self.old.open }
         ensures others { ChangesOnlyAtNumber self.old.open n self.old.streams self.new.streams }
     {
@@ -187,13 +193,14 @@ impl Clients {
 
     /// Whether the request of a client, which waits for the answer to another, has done so for so many seconds. It is
     /// looked at once it has. One that isn't there hasn't.
-    pub fn has_waited_seconds(&mut self, n: u64, seconds: u32, now: u64) -> bool
-        ensures { result ≡ client_has_waited_seconds seconds now (stream_at_number self.old.open self.old.streams n) }
+    pub fn has_waited_seconds_for_another(&mut self, n: u64, seconds: u32, now: u64) -> bool
+        ensures { result
+            ≡ client_waited_seconds_for_another seconds now (client_at_number self.old.open self.old.streams n) }
     {
         let Some(key) = self.key_of(n) else {
             return false;
         };
-        let Some(over) = self.end_of_wait_if_limited(key, seconds) else {
+        let Some(over) = self.end_of_wait_of_client_if_any(key, seconds) else {
             return false;
         };
         self.look_no_later(key, over);
@@ -201,8 +208,8 @@ impl Clients {
     }
 
     /// When the request of a client has waited for so many seconds, from its first byte on.
-    fn end_of_wait_if_limited(&self, key: usize, seconds: u32) -> Option<u64>
-        ensures { result ≡ end_of_wait_if_limited seconds (client_at self.now.streams key) }
+    fn end_of_wait_of_client_if_any(&self, key: usize, seconds: u32) -> Option<u64>
+        ensures { result ≡ end_of_wait_of_client_if_any seconds (client_at self.now.streams key) }
     {
         let asked = self.stream(key)?.asked?;
         Some(asked.saturating_add(u64::from(seconds) * SECOND))
@@ -212,14 +219,14 @@ impl Clients {
     fn look_no_later(&mut self, key: usize, moment: u64) {
         let is_later = self.stream(key).is_some_and(|it| it.look > moment);
         if is_later && !self.schedule_check(key, moment) {
-            self.cut_stream(key, CutReason::Memory);
+            self.drop_stream_and_count(key, CutReason::Memory);
         }
     }
 
     /// Whether a client has sent its end, and waits for its answer for too long. One that isn't there has.
     pub fn is_half_closed_too_long(&self, n: u64, now: u64) -> bool
         ensures { result ≡ client_is_absent_or_half_closed_too_long self.now.limits.abandon_timeout now
-            (stream_at_number self.now.open self.now.streams n) }
+            (client_at_number self.now.open self.now.streams n) }
     {
         match self.get(n) {
             Some(client) => client.is_half_closed_too_long(now, self.limits.abandon_timeout),

@@ -1,11 +1,12 @@
 //! A link to an origin, and its times.
 ghost use Rattle.std.specs.Prelude.{◌≡◌, false};
-ghost use Rattle.proxy_ends.specs.Timeouts.{link_overtime, first_overtime_moment_of_link, silence_limit_of_link};
+ghost use Rattle.proxy_ends.specs.Timeouts.{exceeded_limit_of_link, first_overtime_moment_of_link};
+ghost use Rattle.proxy_ends.specs.Timeouts.{silence_limit_of_link};
 ghost use Rattle.proxy_ends.specs.Streams.{bytes_held_of_peer};
 
 use crate::limits::{Limits, SECOND};
 use mio::event::Event;
-use proxy_figures::{Admission, LinkOvertime};
+use proxy_figures::{ExceededLinkLimit, LinkAdmission};
 use proxy_streams::{Peer, Socket, Stream};
 use std::io;
 
@@ -18,7 +19,7 @@ pub struct Link<S: Stream + Drop = Socket> {
     /// The place of its origin.
     pub origin: usize,
     /// Whether its origin was to be asked.
-    pub admission: Admission,
+    pub admission: LinkAdmission,
     /// It stands among the ends that are read next.
     pub is_listed: bool,
     /// When it is looked at next.
@@ -45,7 +46,7 @@ impl<S: Stream + Drop> Drop for Link<S> {
 
 impl<S: Stream + Drop> Link<S> {
     /// A link that begins; without a stream where that couldn't be had.
-    pub fn new(peer: Option<Peer<S>>, now: u64, origin: usize, admission: Admission) -> Link<S>
+    pub fn new(peer: Option<Peer<S>>, now: u64, origin: usize, admission: LinkAdmission) -> Link<S>
         ensures { result ≡ record {
           peer = peer;
           began = now;
@@ -78,7 +79,7 @@ impl<S: Stream + Drop> Link<S> {
     }
 
     /// For how long its origin may send no byte.
-    pub fn silence(&self, limits: &Limits) -> u64
+    pub fn silence_limit(&self, limits: &Limits) -> u64
         ensures { result ≡ silence_limit_of_link limits.now self.now }
     {
         match self.seconds {
@@ -94,46 +95,46 @@ impl<S: Stream + Drop> Link<S> {
         let last = self.began.saturating_add(limits.exchange_timeout);
         let next = match &self.peer {
             Some(peer) if peer.connecting => self.began.saturating_add(limits.connect_timeout),
-            Some(peer) => peer.heard.saturating_add(self.silence(limits)),
+            Some(peer) => peer.heard.saturating_add(self.silence_limit(limits)),
             None => last,
         };
         last.min(next).saturating_add(1)
     }
 
     /// Whether its connection, its silence or all of it has taken too long.
-    pub fn overtime(&self, now: u64, limits: &Limits) -> Option<LinkOvertime>
-        ensures { result ≡ link_overtime self.now limits.now now }
+    pub fn overtime(&self, now: u64, limits: &Limits) -> Option<ExceededLinkLimit>
+        ensures { result ≡ exceeded_limit_of_link self.now limits.now now }
     {
         let Some(peer) = &self.peer else {
             return None;
         };
         let lasts = now.saturating_sub(self.began);
         if lasts > limits.exchange_timeout {
-            return Some(LinkOvertime::Exchange);
+            return Some(ExceededLinkLimit::Exchange);
         }
         if peer.connecting {
             return if lasts > limits.connect_timeout {
-                Some(LinkOvertime::Connect)
+                Some(ExceededLinkLimit::Connect)
             } else {
                 None
             };
         }
-        if peer.is_silent(now, self.silence(limits)) {
-            return Some(LinkOvertime::Silence);
+        if peer.is_silent(now, self.silence_limit(limits)) {
+            return Some(ExceededLinkLimit::Silence);
         }
         None
     }
 }
 
 /// Takes what an event told of the stream of a link; the answer is an error where its connection couldn't be made.
-pub fn mark_peer_ready(peer: &mut Peer<Socket>, event: &Event, now: u64) -> io::Result<()> {
+pub fn note_event_on_link_peer(peer: &mut Peer<Socket>, event: &Event, now: u64) -> io::Result<()> {
     if peer.connecting {
         if !peer.has_connected(event)? {
             return Ok(());
         }
         peer.heard = now;
     }
-    peer.mark_ready(event);
+    peer.note_socket_event(event);
     if event.is_writable() {
         // What the origin had said before it broke off can still be read.
         let _ = peer.flush(now);

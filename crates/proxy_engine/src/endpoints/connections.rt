@@ -4,25 +4,25 @@ ghost use Rattle.std.specs.Prelude.{sum_by, true, is_some, IsOk, IfOk, IfSome, I
 ghost use Rattle.std.specs.Prelude.{slice_index_or, slice_set};
 ghost use Rattle.std.specs.Option.{option_copied_mut};
 ghost use Rattle.std.specs.Borrow.{LendsIf, sem};
-ghost use Rattle.proxy_engine.specs.ConnectionNumbers.{connection_number};
+ghost use Rattle.proxy_engine.specs.ConnectionNumbers.{connection_number_of_place};
 ghost use Rattle.proxy_engine.specs.EngineModel.{ConnectionModel, no_connection};
 ghost use Rattle.proxy_engine.specs.Due.{IsFirstAtWhich, IsGoneWhileBusy};
 ghost use Rattle.proxy_engine.specs.Reading.{places_with_flag, connection_is_open_in_model};
 ghost use Rattle.proxy_engine.specs.Reading.{connection_may_send_request, client_end_at, IsBetweenRequests};
-ghost use Rattle.proxy_engine.specs.Room.{ConnectionReaderHasSpareBytes, ConnectionRoomIsReleased, most_bytes_of_read};
+ghost use Rattle.proxy_engine.specs.Room.{ConnectionReaderHasRoomFor, ConnectionRoomIsReleased, most_bytes_of_read};
 ghost use Rattle.proxy_engine.specs.Activities.{link_place_of_activity, has_exchange};
 ghost use Rattle.proxy_engine.specs.Pairing.{activity_at, activity_of_connection, activities_of_connections};
-ghost use Rattle.proxy_engine.specs.State.{ListsAreRelated, ConnectionRepresents, is_gone_at};
+ghost use Rattle.proxy_engine.specs.State.{ListsAreRelated, ConnectionRepresents, is_gone_if_connection};
 ghost use Rattle.proxy_engine.specs.State.{NoDisconnectedClientHasExchange};
-ghost use Rattle.proxy_engine.specs.State.{IsFirstDueConnectionFound, is_retired_at};
-ghost use Rattle.proxy_engine.specs.State.{connection_work_left};
+ghost use Rattle.proxy_engine.specs.State.{IsFirstDueConnectionFound, is_retired_connection};
+ghost use Rattle.proxy_engine.specs.State.{work_left_of_connection};
 
 use crate::endpoints::ends::Connection;
 use crate::endpoints::marked_ends::MarkedEnds;
-use crate::endpoints::numbers::{ConnectionPlace, LinkPlace, next_connection};
+use crate::endpoints::numbers::{ConnectionPlace, LinkPlace, number_of_next_connection};
 use crate::endpoints::ready_list::ReadyList;
 use crate::readable_ends;
-use crate::steps::finds::{first_disconnected_exchange, lost_count};
+use crate::steps::finds::{disconnected_exchange_count, first_disconnected_exchange};
 use crate::work::End;
 use std::alloc::{AllocError, Global};
 use std::marker::Model;
@@ -77,7 +77,7 @@ impl Connections {
     /// The number of the connection at a place, and the id of its exchange.
     pub(crate) fn number_at(&self, i: ConnectionPlace) -> u64
         requires { i < length self.now.items }
-        ensures { result ≡ connection_number i }
+        ensures { result ≡ connection_number_of_place i }
     {
         let count = self.len();
         prove!(i.key() < count);
@@ -97,7 +97,7 @@ impl Connections {
 
     /// Whether the connection at a place is to end.
     pub(crate) fn is_retired(&self, i: ConnectionPlace) -> bool
-        ensures { result ≡ is_retired_at (slice_index_or self.now.items i None) }
+        ensures { result ≡ is_retired_connection (slice_index_or self.now.items i None) }
     {
         match self.ends.get(i) {
             Some(connection) => connection.retired,
@@ -180,10 +180,10 @@ impl Connections {
 
     /// The number of the next connection, if one is left.
     pub(crate) fn next_number(&self) -> Option<u64>
-        ensures { result ≡ (if nat_lt (connection_number (length self.now.items))
-            (2 ^ 64) then Some (connection_number (length self.now.items)) else None) }
+        ensures { result ≡ (if nat_lt (connection_number_of_place (length self.now.items))
+            (2 ^ 64) then Some (connection_number_of_place (length self.now.items)) else None) }
     {
-        next_connection(self.ends.len())
+        number_of_next_connection(self.ends.len())
     }
 
     /// Whether fewer than this are open: of those that are kept, all but the ones that are gone, which are marked.
@@ -192,24 +192,24 @@ impl Connections {
             ≡ nat_lt (length (places_with_flag connection_is_open_in_model 0 ss)) most }
     {
         let kept = readable_ends::open_end_count(&self.ends.ends, self.ends.count);
-        let gone = lost_count(&self.ends, &self.lost);
+        let gone = disconnected_exchange_count(&self.ends, &self.lost);
         kept.saturating_sub(gone) < most
     }
 
     /// Adds the clients from which bytes may come.
-    pub(crate) fn push_readable(&self, ends: &mut Vec<End>) -> Result<(), AllocError>
+    pub(crate) fn append_readable_ends(&self, ends: &mut Vec<End>) -> Result<(), AllocError>
         ensures { OnOk result ((ss : List ConnectionModel) → ListsAreRelated ConnectionRepresents self.now.items ss
             → ends.new.items ≡ ends.old.items ++ map client_end_at
             (places_with_flag connection_may_send_request 0 ss)) }
     {
         let open = &self.ends;
-        readable_ends::push_clients(&open.ends, open.count, ends)
+        readable_ends::push_readable_clients(&open.ends, open.count, ends)
     }
 
     /// Makes room for one piece of the client's bytes at a place, if the connection isn't over.
-    pub(crate) fn reserve_piece(&mut self, i: ConnectionPlace) -> Result<(), AllocError>
+    pub(crate) fn reserve_room_for_read(&mut self, i: ConnectionPlace) -> Result<(), AllocError>
         ensures ok { OnOk result
-            (ConnectionReaderHasSpareBytes (slice_index_or self.new.items i None) most_bytes_of_read) }
+            (ConnectionReaderHasRoomFor (slice_index_or self.new.items i None) most_bytes_of_read) }
         ensures represents { (ss : List ConnectionModel) → ListsAreRelated ConnectionRepresents self.old.items ss
             → ListsAreRelated ConnectionRepresents self.new.items ss }
         ensures activities { activities_of_connections self.new.items ≡ activities_of_connections self.old.items }
@@ -251,7 +251,7 @@ impl Connections {
         ensures linked { IfSome result
             (λ p. link_place_of_activity (activity_at (activities_of_connections self.old.items) p.0)
             ≡ p.1) }
-        ensures gone { IfSome result (λ p. is_gone_at (slice_index_or self.old.items p.0 None) ≡ Some true) }
+        ensures gone { IfSome result (λ p. is_gone_if_connection (slice_index_or self.old.items p.0 None) ≡ Some true) }
     {
         first_disconnected_exchange(&self.ends, &mut self.lost)
     }
@@ -262,7 +262,7 @@ impl Connections {
             → ListsAreRelated ConnectionRepresents self.new.items ss }
         ensures found { IfOk result (λ found. IsFirstDueConnectionFound self.new.items found) }
         ensures activities { activities_of_connections self.new.items ≡ activities_of_connections self.old.items }
-        ensures load { sum_by connection_work_left self.new.items ≤ sum_by connection_work_left self.old.items }
+        ensures load { sum_by work_left_of_connection self.new.items ≤ sum_by work_left_of_connection self.old.items }
     {
         self.ends.find(alloc)
     }

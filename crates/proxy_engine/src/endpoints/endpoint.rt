@@ -4,8 +4,8 @@ ghost use Rattle.proxy_engine.specs.Marked.{DiffersOnlyInSpareRoom};
 
 use crate::endpoints::activities::Activity;
 use crate::endpoints::ends::{Connection, Link};
-use crate::endpoints::numbers::{ConnectionKind, ConnectionPlace, LinkKind};
-use crate::endpoints::peeked::Peeked;
+use crate::endpoints::numbers::{ConnectionPlace, ConnectionPlaceKind, LinkPlaceKind};
+use crate::endpoints::peeked::PeekableReader;
 use hx_framing::{RequestReader, ResponseReader};
 use std::alloc::{AllocError, Global};
 
@@ -60,11 +60,11 @@ pub(crate) trait Endpoint: Drop {
 }
 
 impl Endpoint for Connection {
-    type Kind = ConnectionKind;
+    type Kind = ConnectionPlaceKind;
 
-    ghost use Rattle.proxy_engine.specs.Marked.{connection_may_be_due, ConnectionAfterLookahead};
+    ghost use Rattle.proxy_engine.specs.Marked.{connection_may_be_due, LookingAheadKeepsConnection};
     ghost use Rattle.proxy_engine.specs.Marked.{LookaheadShowsWhatIsDueOnConnection};
-    ghost use Rattle.proxy_engine.specs.Exhausted.{connection_unknown};
+    ghost use Rattle.proxy_engine.specs.Exhausted.{connection_lookahead_is_unknown};
     ghost use Rattle.std.proofs.Common.{refl, ◌∙◌};
     ghost use Rattle.std.proofs.Math.Nat.{le_refl, le_trans};
 
@@ -72,17 +72,17 @@ impl Endpoint for Connection {
 
     ghost IsShown = { LookaheadShowsWhatIsDueOnConnection };
 
-    ghost LooksLike = { ConnectionAfterLookahead };
+    ghost LooksLike = { LookingAheadKeepsConnection };
 
     ghost spare = { λ c. c.reader.inner.spare };
 
     ghost unread = { λ c. c.reader.inner.unread };
 
-    ghost is_unknown = { connection_unknown };
+    ghost is_unknown = { connection_lookahead_is_unknown };
 
     fn empty(alloc: Global) -> Self {
         Connection {
-            reader: Peeked::new(RequestReader::new(alloc, 0)),
+            reader: PeekableReader::new(RequestReader::new(alloc, 0)),
             ended: false,
             gone: true,
             retired: false,
@@ -117,10 +117,10 @@ impl Endpoint for Connection {
 }
 
 impl Endpoint for Link {
-    type Kind = LinkKind;
+    type Kind = LinkPlaceKind;
 
     ghost use Rattle.proxy_engine.specs.Marked.{link_may_be_due, LinkAfterLookahead, LookaheadShowsWhatIsDueOnLink};
-    ghost use Rattle.proxy_engine.specs.Exhausted.{link_unknown};
+    ghost use Rattle.proxy_engine.specs.Exhausted.{link_lookahead_is_unknown};
     ghost use Rattle.std.proofs.Common.{refl, ◌∙◌};
     ghost use Rattle.std.proofs.Math.Nat.{le_refl, le_trans};
 
@@ -134,11 +134,11 @@ impl Endpoint for Link {
 
     ghost unread = { λ k. k.reader.inner.unread };
 
-    ghost is_unknown = { link_unknown };
+    ghost is_unknown = { link_lookahead_is_unknown };
 
     fn empty(alloc: Global) -> Self {
         Link {
-            reader: Peeked::new(ResponseReader::new(alloc, 0, false)),
+            reader: PeekableReader::new(ResponseReader::new(alloc, 0, false)),
             ended: false,
             failed: None,
             connection: ConnectionPlace::at(0),

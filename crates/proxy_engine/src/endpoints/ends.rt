@@ -19,13 +19,13 @@
 
 use crate::endpoints::activities::Activity;
 use crate::endpoints::numbers::ConnectionPlace;
-use crate::endpoints::peeked::Peeked;
+use crate::endpoints::peeked::PeekableReader;
 use hx_framing::{RequestReader, ResponseReader};
 use hx_status::FailKind;
 
 /// A client's connection that isn't closed, and isn't gone without an open exchange.
 pub(crate) struct Connection {
-    pub(crate) reader: Peeked<RequestReader>,
+    pub(crate) reader: PeekableReader<RequestReader>,
     /// The client sends no more.
     pub(crate) ended: bool,
     /// The client went away.
@@ -51,7 +51,7 @@ impl Drop for Connection {
 
 /// A link to an origin that isn't dropped.
 pub(crate) struct Link {
-    pub(crate) reader: Peeked<ResponseReader>,
+    pub(crate) reader: PeekableReader<ResponseReader>,
     /// The origin closed it.
     pub(crate) ended: bool,
     pub(crate) failed: Option<FailKind>,

@@ -4,16 +4,17 @@ ghost use Rattle.std.specs.Prelude.{IsOk, IfOk, OnOk, OnErr, MatchOption, slice_
 ghost use Rattle.std.specs.Option.{option_copied, option_copied_mut};
 ghost use Rattle.std.specs.Borrow.{LendsIf, sem};
 ghost use Rattle.proxy_engine.specs.Exhausted.{IsOpenWithFlag};
-ghost use Rattle.proxy_engine.specs.Marked.{end_if_open_at, open_end_count, DiffersOnlyInSpareRoom, PlacesAreRelated};
+ghost use Rattle.proxy_engine.specs.Marked.{end_if_open_at, open_end_count, DiffersOnlyInSpareRoom};
+ghost use Rattle.proxy_engine.specs.Marked.{ContentsOfPlacesAreRelated};
 ghost use Rattle.proxy_engine.specs.Marked.{NoOpenEndBelowHasFlag, NoOpenEndHasFlag};
-ghost use Rattle.proxy_engine.specs.Room.{HasSpareBytes, SpareRoomIsReleased, most_bytes_of_read};
+ghost use Rattle.proxy_engine.specs.Room.{HasRoomForBytes, SpareRoomIsReleased, most_bytes_of_read};
 
 use crate::endpoints::boxed::Boxed;
 use crate::endpoints::endpoint::Endpoint;
 use crate::endpoints::numbers::Place;
 use crate::endpoints::ready_list::ReadyList;
 use crate::readable_ends;
-use crate::steps::finds::first_due;
+use crate::steps::finds::first_due_place;
 use std::alloc::{AllocError, Global};
 use std::collections::BTreeMap;
 use std::marker::Model;
@@ -145,7 +146,7 @@ impl<E: Endpoint> MarkedEnds<E> {
             return Err(AllocError);
         }
         let end = Boxed::new(alloc, E::empty(alloc))?;
-        self.marked.reserve_beside(&self.ends)?;
+        self.marked.reserve_for_open_ends(&self.ends)?;
         self.ends.insert(next, end)?;
         self.spare = true;
         Ok(())
@@ -157,7 +158,7 @@ impl<E: Endpoint> MarkedEnds<E> {
         ensures room { marks.old.room ≤ marks.new.room }
         ensures ok { OnOk result (open_end_count self.now.items + 1 ≤ marks.new.room) }
     {
-        marks.reserve_beside(&self.ends)
+        marks.reserve_for_open_ends(&self.ends)
     }
 
     /// Puts an end into the box behind the last. The box is there, so nothing is allocated.
@@ -175,8 +176,8 @@ impl<E: Endpoint> MarkedEnds<E> {
 
     /// Makes room for one piece of bytes at a place, if the end isn't over.
     pub(crate) fn reserve_bytes(&mut self, place: Place<E::Kind>) -> Result<(), AllocError>
-        ensures ok { OnOk result (HasSpareBytes E.spare (end_if_open_at self.new.items place) most_bytes_of_read) }
-        ensures grows { PlacesAreRelated (DiffersOnlyInSpareRoom E.LooksLike E.may_show)
+        ensures ok { OnOk result (HasRoomForBytes E.spare (end_if_open_at self.new.items place) most_bytes_of_read) }
+        ensures grows { ContentsOfPlacesAreRelated (DiffersOnlyInSpareRoom E.LooksLike E.may_show)
             (end_if_open_at self.old.items) (end_if_open_at self.new.items) }
         ensures length { length self.new.items ≡ length self.old.items }
         ensures room { self.new.has_room ≡ self.old.has_room }
@@ -192,7 +193,7 @@ impl<E: Endpoint> MarkedEnds<E> {
     /// Gives back the room for bytes at a place, if the end isn't over and no byte waits there.
     pub(crate) fn release_room(&mut self, place: Place<E::Kind>, alloc: Global)
         ensures given { SpareRoomIsReleased E.unread E.spare (end_if_open_at self.new.items place) }
-        ensures alike { PlacesAreRelated (DiffersOnlyInSpareRoom E.LooksLike E.may_show)
+        ensures alike { ContentsOfPlacesAreRelated (DiffersOnlyInSpareRoom E.LooksLike E.may_show)
             (end_if_open_at self.old.items) (end_if_open_at self.new.items) }
         ensures length { length self.new.items ≡ length self.old.items }
         ensures room { self.new.has_room ≡ self.old.has_room }
@@ -217,7 +218,8 @@ impl<E: Endpoint> MarkedEnds<E> {
 
     /// The first end at which something is due. What is found there is kept.
     pub(crate) fn find(&mut self, alloc: Global) -> Result<Option<Place<E::Kind>>, AllocError>
-        ensures alike { PlacesAreRelated E.LooksLike (end_if_open_at self.old.items) (end_if_open_at self.new.items) }
+        ensures alike { ContentsOfPlacesAreRelated E.LooksLike (end_if_open_at self.old.items)
+            (end_if_open_at self.new.items) }
         ensures length { length self.new.items ≡ length self.old.items }
         ensures room { self.new.has_room ≡ self.old.has_room }
         ensures found { IfOk result
@@ -229,6 +231,6 @@ impl<E: Endpoint> MarkedEnds<E> {
             × NoOpenEndBelowHasFlag E.may_show (end_if_open_at self.new.items) place
             × (place < length self.new.items)) }
     {
-        first_due(&mut self.ends, &mut self.marked, alloc)
+        first_due_place(&mut self.ends, &mut self.marked, alloc)
     }
 }

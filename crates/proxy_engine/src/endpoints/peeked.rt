@@ -8,7 +8,7 @@ ghost use Rattle.proxy_engine.specs.Lookahead.{LookaheadShowsAnswer, lookahead_a
 ghost use Rattle.proxy_engine.specs.Lookahead.{one_if_message_or_continue, one_if_maybe_due};
 ghost use Rattle.hx_framing.specs.declared.messages.Request.{Request};
 ghost use Rattle.hx_framing.specs.RequestStream.{StreamSpells};
-ghost use Rattle.proxy_engine.specs.Peeked.{PeekedRepresents, RequestRepresents, peeked_work_left};
+ghost use Rattle.proxy_engine.specs.PeekableReader.{PeekedRepresents, RequestRepresents, peeked_work_left};
 ghost use Rattle.proxy_engine.specs.Exhausted.{lookahead_is_unknown};
 
 use crate::endpoints::lookahead::Lookahead;
@@ -18,27 +18,27 @@ use std::alloc::{AllocError, Global};
 
 /// A reader whose next answer is kept until it is used. What comes of its stream goes to `inner`, and then it is asked
 /// again.
-pub struct Peeked<R: Reader> {
+pub struct PeekableReader<R: Reader> {
     pub(crate) inner: R,
     ahead: Lookahead<R::Message>,
 }
 
 /// One call drops it, wherever that is.
-impl<R: Reader> Drop for Peeked<R> {
+impl<R: Reader> Drop for PeekableReader<R> {
     fn drop(self) {
-        let Peeked { inner: _, ahead: _ } = self;
+        let PeekableReader { inner: _, ahead: _ } = self;
     }
 }
 
-impl<R: Reader> Peeked<R> {
+impl<R: Reader> PeekableReader<R> {
     /// Of a reader to which nothing has come, so that nothing is due.
     pub fn new(reader: R) -> Self
-        ensures represents { (p : Progress R.Message) → R.RepresentsStream reader p → R.Answers p next.More
-            → PeekedRepresents R.RepresentsStream R.Answers result p }
+        ensures represents { (p : Progress R.Message) → R.ReaderRepresentsStream reader p → R.Answers p next.More
+            → PeekedRepresents R.ReaderRepresentsStream R.Answers result p }
         ensures load { peeked_work_left R.weight result ≡ R.weight reader }
         ensures quiet { result.ahead ≡ Lookahead.Quiet }
     {
-        Peeked {
+        PeekableReader {
             inner: reader,
             ahead: Lookahead::Quiet,
         }
@@ -58,8 +58,8 @@ impl<R: Reader> Peeked<R> {
 
     /// Sees what is due next, and keeps it. Whatever it answers, it stands for the same streams.
     pub fn look_ahead(&mut self, alloc: Global) -> Result<(), AllocError>
-        ensures represents { (p : Progress R.Message) → PeekedRepresents R.RepresentsStream R.Answers self.old p
-            → PeekedRepresents R.RepresentsStream R.Answers self.new p }
+        ensures represents { (p : Progress R.Message) → PeekedRepresents R.ReaderRepresentsStream R.Answers self.old p
+            → PeekedRepresents R.ReaderRepresentsStream R.Answers self.new p }
         ensures looked { OnOk result ((a : Next R.Message) × LookaheadShowsAnswer self.new.ahead a) }
         ensures unknown { OnErr result (lookahead_is_unknown self.new.ahead ≡ true) }
         ensures load { peeked_work_left R.weight self.new ≤ peeked_work_left R.weight self.old }
@@ -82,8 +82,8 @@ impl<R: Reader> Peeked<R> {
     /// Reads what is due next, of which nothing is known.
     fn read(&mut self, alloc: Global) -> Result<(), AllocError>
         requires { self.old.ahead ≡ Lookahead.Unknown }
-        ensures represents { (p : Progress R.Message) → PeekedRepresents R.RepresentsStream R.Answers self.old p
-            → PeekedRepresents R.RepresentsStream R.Answers self.new p }
+        ensures represents { (p : Progress R.Message) → PeekedRepresents R.ReaderRepresentsStream R.Answers self.old p
+            → PeekedRepresents R.ReaderRepresentsStream R.Answers self.new p }
         ensures looked { OnOk result ((a : Next R.Message) × LookaheadShowsAnswer self.new.ahead a) }
         ensures unknown { OnErr result (lookahead_is_unknown self.new.ahead ≡ true) }
         ensures load { peeked_work_left R.weight self.new ≤ peeked_work_left R.weight self.old }
@@ -116,8 +116,8 @@ impl<R: Reader> Peeked<R> {
     /// Goes on after what is due.
     pub fn pass(&mut self)
         ensures represents { (p : Progress R.Message) → (a : Next R.Message) → self.old.ahead ≡ Lookahead.Due a
-            → PeekedRepresents R.RepresentsStream R.Answers self.old p
-            → PeekedRepresents R.RepresentsStream R.Answers self.new (progress_after_answer p a) }
+            → PeekedRepresents R.ReaderRepresentsStream R.Answers self.old p
+            → PeekedRepresents R.ReaderRepresentsStream R.Answers self.new (progress_after_answer p a) }
         ensures load { peeked_work_left R.weight self.new + one_if_message_or_continue self.old.ahead
             ≤ peeked_work_left R.weight self.old }
     {
@@ -125,7 +125,7 @@ impl<R: Reader> Peeked<R> {
     }
 }
 
-impl Peeked<RequestReader> {
+impl PeekableReader<RequestReader> {
     /// Whether each byte of the stream belongs to a request that was used.
     pub(crate) fn is_between_requests(&self) -> bool
         ensures { (p : Progress Request) → RequestRepresents self.now p → result ≡ true

@@ -73,7 +73,10 @@ impl ReadyList {
     /// Makes room for at least twice the places of what is open and of one more: for four times as many, where there is
     /// less. So where the vector is full, at least half of it is taken off already, and to cut that off moves no more
     /// places than it frees. The room goes by how many were open at a time, and not by how many ever were.
-    pub(crate) fn reserve_beside<T>(&mut self, ends: &BTreeMap<u64, T>) -> Result<(), AllocError>
+    pub(crate) fn reserve_for_open_ends<T>(
+        &mut self,
+        ends: &BTreeMap<u64, T>,
+    ) -> Result<(), AllocError>
         ensures places { self.new.places ≡ self.old.places }
         ensures room { self.old.room ≤ self.new.room }
         ensures ok { OnOk result (2 * (length ends.now.entries + 1) ≤ self.new.room) }

@@ -12,7 +12,7 @@ use crate::steps::questions::question_with_raw_target;
 use http::Method;
 use hx_framing::{FrameFault, Next, Request};
 use hx_hop::{Asked, ask};
-use hx_status::{Cause, Question};
+use hx_status::{Cause, MethodAndTarget};
 use hx_target::TargetFault;
 use std::alloc::{AllocError, Global};
 
@@ -25,7 +25,7 @@ pub(crate) enum Action {
     Arrive(Asked),
     /// The proxy answers by itself and closes. The flag says whether a HEAD is answered; the question is none where no
     /// request could be read.
-    Refuse(Cause, bool, Option<Question>),
+    Refuse(Cause, bool, Option<MethodAndTarget>),
     /// The connection is closed without an answer.
     Close,
 }

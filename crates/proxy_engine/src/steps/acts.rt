@@ -1,12 +1,12 @@
 //! The first act that is due: an exchange is abandoned, else one is finished, else a request that waited is woken, else
 //! a connection is served.
 ghost use Rattle.std.specs.Prelude.{◌≡◌, ◌<◌, ◌≤◌, Err, IfOk, IfErr, OnErr};
-ghost use Rattle.hx_fields.specs.declared.limits.TheConstants.{END_OF_TIME};
+ghost use Rattle.hx_fields.specs.declared.limits.TheConstants.{START_OF_YEAR_10000};
 ghost use Rattle.proxy_engine.specs.EngineModel.{EngineModel};
-ghost use Rattle.proxy_engine.specs.State.{EngineRepresents, work_left_of_state, FirstDueActWasDone};
+ghost use Rattle.proxy_engine.specs.State.{EngineRepresents, work_left_of_state, FirstDueActIfAnyWasDone};
 ghost use Rattle.proxy_engine.specs.State.{NoActWasDoneBecauseOf};
 ghost use Rattle.proxy_engine.specs.State.{EachActLeavesLessWork};
-ghost use Rattle.proxy_engine.specs.Exhausted.{ReportsLinkNumbersExhausted};
+ghost use Rattle.proxy_engine.specs.Exhausted.{LinkNumberIsLeftIfActMayForward};
 ghost use Rattle.proxy_engine.specs.DueActs.{IsFirstDueActFound};
 
 use crate::endpoints::numbers::{ConnectionPlace, LinkPlace};
@@ -34,14 +34,14 @@ impl<S: Shelf> Engine<S> {
     fn first_due_act(&mut self, alloc: Global) -> Result<DueAct, AllocError>
         ensures found { IfOk result (λ act. IsFirstDueActFound self.old self.new act) }
         ensures exhausted { OnErr result ((s : EngineModel) → EngineRepresents self.old s
-            → ReportsLinkNumbersExhausted s self.new) }
+            → LinkNumberIsLeftIfActMayForward s self.new) }
         ensures represents { (s : EngineModel) → EngineRepresents self.old s → EngineRepresents self.new s }
         ensures load { work_left_of_state self.new ≤ work_left_of_state self.old }
     {
         if let Some((place, link)) = self.ends.connections.find_disconnected_exchange() {
             return Ok(DueAct::Abandon(place, link));
         }
-        if let Some(place) = self.ends.links.find_finished(alloc)? {
+        if let Some(place) = self.ends.links.find_finished_link(alloc)? {
             return Ok(DueAct::Finish(place));
         }
         if let Some(id) = self.core.first_wakeable() {
@@ -59,14 +59,14 @@ impl<S: Shelf> Engine<S> {
     /// where looks have found that an answer or a waiting request is due. A request that arrives is judged before that,
     /// which allocates.
     pub fn work(&mut self, alloc: Global, now: u64) -> Result<Work, EngineFault>
-        requires { now < END_OF_TIME }
+        requires { now < START_OF_YEAR_10000 }
         ensures ok { IfOk result (λ work. (s : EngineModel) → EngineRepresents self.old s
-            → FirstDueActWasDone s now work self.new) }
+            → FirstDueActIfAnyWasDone s now work self.new) }
         ensures less { IfOk result (λ work. EachActLeavesLessWork self.old work self.new) }
         ensures fault { IfErr result (λ fault. (s : EngineModel) → EngineRepresents self.old s
             → NoActWasDoneBecauseOf s fault) }
         ensures exhausted { result ≡ Err EngineFault.OutOfMemory → (s : EngineModel) → EngineRepresents self.old s
-            → ReportsLinkNumbersExhausted s self.new }
+            → LinkNumberIsLeftIfActMayForward s self.new }
         ensures unchanged { OnErr result ((s : EngineModel) → EngineRepresents self.old s
             → EngineRepresents self.new s) }
         ensures no_more { OnErr result (work_left_of_state self.new ≤ work_left_of_state self.old) }

@@ -7,7 +7,7 @@ ghost use Rattle.proxy_engine.specs.ReadyList.{FlaggedPlacesAreMarked};
 ghost use Rattle.proxy_engine.specs.Exhausted.{IsOpenWithFlag};
 ghost use Rattle.proxy_engine.specs.Held.{open_end_has_flag};
 ghost use Rattle.proxy_engine.specs.Reading.{places_with_flag};
-ghost use Rattle.proxy_engine.specs.Marked.{is_gone_with_exchange, PlacesAreRelated, NoOpenEndBelowHasFlag};
+ghost use Rattle.proxy_engine.specs.Marked.{is_gone_with_exchange, ContentsOfPlacesAreRelated, NoOpenEndBelowHasFlag};
 ghost use Rattle.proxy_engine.specs.Marked.{NoOpenEndHasFlag};
 ghost use Rattle.proxy_engine.specs.Marked.{link_of_disconnected_exchange_at, end_if_open_at};
 ghost use Rattle.proxy_engine.specs.Marked.{DisconnectedExchangesAreMarked};
@@ -70,7 +70,7 @@ pub(crate) fn first_disconnected_exchange(
 }
 
 /// How many connections are gone with an open exchange. Each is at a marked place, and no other is looked at.
-pub(crate) fn lost_count(ends: &MarkedEnds<Connection>, lost: &ReadyList) -> usize
+pub(crate) fn disconnected_exchange_count(ends: &MarkedEnds<Connection>, lost: &ReadyList) -> usize
     requires { DisconnectedExchangesAreMarked ends.now lost.now }
     ensures { result ≡ length (places_with_flag (open_end_has_flag is_gone_with_exchange) 0 ends.now.items) }
 {
@@ -90,7 +90,7 @@ fn poll_at<E: Endpoint>(
     place: u64,
     alloc: Global,
 ) -> Result<bool, AllocError>
-    ensures alike { PlacesAreRelated E.LooksLike (get nat_cmp ends.old) (get nat_cmp ends.new) }
+    ensures alike { ContentsOfPlacesAreRelated E.LooksLike (get nat_cmp ends.old) (get nat_cmp ends.new) }
     ensures others { (q : ℕ) → q ≢ place → get nat_cmp ends.new q ≡ get nat_cmp ends.old q }
     ensures size { length ends.new.entries ≡ length ends.old.entries }
     ensures yes { IfOk result (λ b. b ≡ true → E.IsShown (get nat_cmp ends.new place)) }
@@ -104,7 +104,7 @@ fn poll_at<E: Endpoint>(
 }
 
 /// The first end at which something is due. Places are dropped where nothing is.
-pub(crate) fn first_due<E: Endpoint>(
+pub(crate) fn first_due_place<E: Endpoint>(
     ends: &mut BTreeMap<u64, Boxed<E>>,
     marked: &mut ReadyList,
     alloc: Global,
@@ -112,7 +112,7 @@ pub(crate) fn first_due<E: Endpoint>(
     requires { FlaggedPlacesAreMarked E.may_show (get nat_cmp ends.old) (length ends.old.entries) marked.old }
     ensures marked { FlaggedPlacesAreMarked E.may_show (get nat_cmp ends.new) (length ends.new.entries) marked.new }
     ensures fewer { (q : ℕ) → Contains marked.new.places q → Contains marked.old.places q }
-    ensures alike { PlacesAreRelated E.LooksLike (get nat_cmp ends.old) (get nat_cmp ends.new) }
+    ensures alike { ContentsOfPlacesAreRelated E.LooksLike (get nat_cmp ends.old) (get nat_cmp ends.new) }
     ensures size { length ends.new.entries ≡ length ends.old.entries }
     ensures found { IfOk result (λ found. MatchOption found (NoOpenEndHasFlag E.may_show (get nat_cmp ends.new))
         (λ place. E.IsShown (get nat_cmp ends.new place) × NoOpenEndBelowHasFlag E.may_show (get nat_cmp ends.new) place

@@ -1,28 +1,28 @@
 //! An exchange ends: its origin has answered or failed, or its client is gone.
 ghost use Rattle.std.specs.Prelude.{◌≡◌, ℕ, ◌+◌, ◌<◌, ◌^◌, nat_le, None, length};
 ghost use Rattle.std.specs.Prelude.{true, false, Some, is_some, IfOk, IfErr, OnOk, OnErr, slice_index_or};
-ghost use Rattle.hx_fields.specs.declared.limits.TheConstants.{END_OF_TIME};
+ghost use Rattle.hx_fields.specs.declared.limits.TheConstants.{START_OF_YEAR_10000};
 ghost use Rattle.proxy_core.specs.declared.event.Event.TheVariants.{Fail};
 ghost use Rattle.proxy_core.specs.State.{StepIsAccepted};
 ghost use Rattle.proxy_engine.specs.EngineModel.{EngineModel};
-ghost use Rattle.proxy_engine.specs.Due.{Abandons, LinkResult, Finishes, fail_kind_of_fault, IsDueFirst};
-ghost use Rattle.proxy_engine.specs.State.{EngineRepresents, link_result_at, is_gone_at};
+ghost use Rattle.proxy_engine.specs.Due.{Abandons, LinkResult, Finishes, fail_kind_of_fault, IsFirstDueAct};
+ghost use Rattle.proxy_engine.specs.State.{EngineRepresents, link_result_at, is_gone_if_connection};
 ghost use Rattle.proxy_engine.specs.State.{NoDisconnectedClientHasExchange};
 ghost use Rattle.proxy_engine.specs.State.{work_left_of_state, EngineDoesAct, NoActWasDoneBecauseOf};
 ghost use Rattle.proxy_core.specs.AnsweredRequests.{request_of_exchange, request_answered};
 ghost use Rattle.proxy_core.specs.Outcomes.{find_exchange};
 ghost use Rattle.proxy_engine.specs.Activities.{link_place_of_activity, has_exchange};
-ghost use Rattle.proxy_engine.specs.Pairing.{activity_at, activities_of_connections, forwarded_or_waiting_at};
+ghost use Rattle.proxy_engine.specs.Pairing.{activity_at, activities_of_connections, is_forwarded_if_open};
 ghost use Rattle.proxy_engine.specs.Acts.{request_is_head};
-ghost use Rattle.proxy_engine.specs.Actions.{ExchangeIsFinishedBy, link_result_is_answer, IsFaultOfFinishing};
+ghost use Rattle.proxy_engine.specs.Actions.{ExchangeIsFinishedBy, link_result_is_answer, IsFaultOfFinishingExchange};
 
 use crate::endpoints::activities::Activity;
 use crate::endpoints::ends::Link;
 use crate::endpoints::numbers::{ConnectionPlace, LinkPlace};
 use crate::engine::Engine;
 use crate::steps::outcomes::{
-    as_alloc_error, effects_with_capacity, end_exchange_of_link, free_link_of_gone_client,
-    free_waiting_of_gone_client, put,
+    core_fault_as_alloc_error, effects_with_capacity, end_exchange_of_link,
+    free_link_of_gone_client, free_waiting_of_gone_client, put,
 };
 use crate::work::EngineFault;
 use hx_framing::{FrameFault, Next};
@@ -61,8 +61,8 @@ fn fail<S: Shelf>(
     id: u64,
     kind: FailKind,
 ) -> Result<Step, AllocError>
-    requires open { forwarded_or_waiting_at id core.old.exchanges ≡ Some true }
-    requires early { now < END_OF_TIME }
+    requires open { is_forwarded_if_open id core.old.exchanges ≡ Some true }
+    requires early { now < START_OF_YEAR_10000 }
     ensures ok { IfOk result (λ step. StepIsAccepted core.old (Fail now id kind) step.outcome core.new) }
     ensures asked { IfOk result (λ step. step.asked
         ≡ request_answered (find_exchange id core.old.exchanges) step.outcome) }
@@ -70,7 +70,7 @@ fn fail<S: Shelf>(
 {
     match core.fail(alloc, now, id, kind) {
         Ok(step) => Ok(step),
-        Err(fault) => Err(as_alloc_error(fault)),
+        Err(fault) => Err(core_fault_as_alloc_error(fault)),
     }
 }
 
@@ -83,8 +83,8 @@ fn end<S: Shelf>(
     id: u64,
 ) -> Result<Step, AllocError>
     requires due { is_some (link_result_at (Some link.now)) ≡ true }
-    requires open { forwarded_or_waiting_at id core.old.exchanges ≡ Some true }
-    requires early { now < END_OF_TIME }
+    requires open { is_forwarded_if_open id core.old.exchanges ≡ Some true }
+    requires early { now < START_OF_YEAR_10000 }
     ensures ok { IfOk result (λ step. (f : LinkResult) × (link_result_at (Some link.now) ≡ Some f)
         × ExchangeIsFinishedBy core.old now id f step.outcome core.new) }
     ensures asked { IfOk result (λ step. step.asked
@@ -95,7 +95,7 @@ fn end<S: Shelf>(
         Some(next) => match next {
             Next::Message(response) => match core.answer(alloc, now, id, response) {
                 Ok(step) => Ok(step),
-                Err(fault) => Err(as_alloc_error(fault)),
+                Err(fault) => Err(core_fault_as_alloc_error(fault)),
             },
             Next::Refused(fault) => fail(core, alloc, now, id, fail_kind_of_fault(*fault)),
             Next::NeedsContinue => fail(core, alloc, now, id, FailKind::BadAnswer),
@@ -137,7 +137,7 @@ impl<S: Shelf> Engine<S> {
         requires open { has_exchange (activity_at (activities_of_connections self.old.connections) i) ≡ true }
         requires linked { link_place_of_activity (activity_at (activities_of_connections self.old.connections) i)
             ≡ link }
-        requires gone { is_gone_at (slice_index_or self.old.connections i None) ≡ Some true }
+        requires gone { is_gone_if_connection (slice_index_or self.old.connections i None) ≡ Some true }
         ensures ok { IfOk result (λ effects. (s : EngineModel) → (now : ℕ) → EngineRepresents self.old s
             → EngineDoesAct s now (Abandons i link) effects.items self.new) }
         ensures less { OnOk result (work_left_of_state self.new < work_left_of_state self.old) }
@@ -156,7 +156,7 @@ impl<S: Shelf> Engine<S> {
         i: ConnectionPlace,
     ) -> Result<Vec<Effect>, AllocError>
         requires waiting { activity_at (activities_of_connections self.old.connections) i ≡ Activity.Waiting }
-        requires gone { is_gone_at (slice_index_or self.old.connections i None) ≡ Some true }
+        requires gone { is_gone_if_connection (slice_index_or self.old.connections i None) ≡ Some true }
         ensures ok { IfOk result (λ effects. (s : EngineModel) → (now : ℕ) → EngineRepresents self.old s
             → EngineDoesAct s now (Abandons i None) effects.items self.new) }
         ensures less { OnOk result (work_left_of_state self.new < work_left_of_state self.old) }
@@ -166,7 +166,7 @@ impl<S: Shelf> Engine<S> {
         let id = self.ends.connections.number_at(i);
         match self.core.abandon(id) {
             Ok(_) => {}
-            Err(fault) => return Err(as_alloc_error(fault)),
+            Err(fault) => return Err(core_fault_as_alloc_error(fault)),
         }
         free_waiting_of_gone_client(&mut self.ends.connections, i);
         Ok(effects)
@@ -181,7 +181,7 @@ impl<S: Shelf> Engine<S> {
     ) -> Result<Vec<Effect>, AllocError>
         requires linked { link_place_of_activity (activity_at (activities_of_connections self.old.connections) i)
             ≡ Some l }
-        requires gone { is_gone_at (slice_index_or self.old.connections i None) ≡ Some true }
+        requires gone { is_gone_if_connection (slice_index_or self.old.connections i None) ≡ Some true }
         ensures ok { IfOk result (λ effects. (s : EngineModel) → (now : ℕ) → EngineRepresents self.old s
             → EngineDoesAct s now (Abandons i (Some l)) effects.items self.new) }
         ensures less { OnOk result (work_left_of_state self.new < work_left_of_state self.old) }
@@ -191,7 +191,7 @@ impl<S: Shelf> Engine<S> {
         let id = self.ends.connections.number_at(i);
         match self.core.abandon(id) {
             Ok(_) => {}
-            Err(fault) => return Err(as_alloc_error(fault)),
+            Err(fault) => return Err(core_fault_as_alloc_error(fault)),
         }
         free_link_of_gone_client(&mut self.ends.connections, &mut self.ends.links, l, i);
         put(&mut effects, Effect::Drop(self.ends.number_at(l)));
@@ -206,7 +206,7 @@ impl<S: Shelf> Engine<S> {
         requires left { (f : LinkResult) → link_result_at (slice_index_or self.old.links j None) ≡ Some f
             → link_result_is_answer f ≡ true
             → self.old.first + length self.old.links < 2 ^ 64 }
-        requires early { now < END_OF_TIME }
+        requires early { now < START_OF_YEAR_10000 }
         ensures ok { IfOk result (λ effects. (s : EngineModel) → (f : LinkResult)
             → link_result_at (slice_index_or self.old.links j None) ≡ Some f
             → EngineRepresents self.old s → EngineDoesAct s now (Finishes j f) effects.items self.new) }
@@ -244,20 +244,20 @@ impl<S: Shelf> Engine<S> {
     ) -> Result<Vec<Effect>, EngineFault>
         requires due { is_some (link_result_at (slice_index_or self.old.links j None)) ≡ true }
         requires here { NoDisconnectedClientHasExchange self.old.connections }
-        requires early { now < END_OF_TIME }
+        requires early { now < START_OF_YEAR_10000 }
         ensures ok { IfOk result (λ effects. (s : EngineModel) → (f : LinkResult)
             → link_result_at (slice_index_or self.old.links j None) ≡ Some f
             → EngineRepresents self.old s → EngineDoesAct s now (Finishes j f) effects.items self.new) }
         ensures less { OnOk result (work_left_of_state self.new < work_left_of_state self.old) }
         ensures exhausted { IfErr result
             (λ fault. (f : LinkResult) → link_result_at (slice_index_or self.old.links j None) ≡ Some f
-            → IsFaultOfFinishing (nat_le (2 ^ 64) (self.old.first + length self.old.links)) f fault) }
+            → IsFaultOfFinishingExchange (nat_le (2 ^ 64) (self.old.first + length self.old.links)) f fault) }
         ensures fault { IfErr result (λ fault. (s : EngineModel) → (f : LinkResult)
-            → link_result_at (slice_index_or self.old.links j None) ≡ Some f → IsDueFirst s (Some (Finishes j f))
+            → link_result_at (slice_index_or self.old.links j None) ≡ Some f → IsFirstDueAct s (Some (Finishes j f))
             → EngineRepresents self.old s → NoActWasDoneBecauseOf s fault) }
         ensures err { OnErr result (self.new ≡ self.old) }
     {
-        if self.ends.is_exhausted() && is_answered(self.ends.links.at(j)) {
+        if self.ends.has_no_link_number_left() && is_answered(self.ends.links.at(j)) {
             return Err(EngineFault::Spent);
         }
         match self.complete(alloc, now, j) {

@@ -1,13 +1,13 @@
 //! What a client asked for, as it is told with its reply.
 ghost use Rattle.std.specs.Prelude.{◌≡◌, IfOk};
 ghost use Rattle.std.specs.Option.{option_map};
-ghost use Rattle.proxy_engine.specs.Questions.{question_of, question_with_raw_target};
+ghost use Rattle.proxy_engine.specs.Questions.{question_of_request, question_with_raw_target};
 
 use http::Method;
 use hx_fields::Bytes;
 use hx_framing::Request;
 use hx_hop::Asked;
-use hx_status::{AskedTarget, Question};
+use hx_status::{AskedTarget, MethodAndTarget};
 use hx_target::Key;
 use std::alloc::{AllocError, Global};
 use std::mem::replace;
@@ -22,21 +22,24 @@ fn empty_key(alloc: Global) -> Key {
 }
 
 /// What a request asked for. Its method and its key are taken out of it, so no memory is asked for.
-fn question_of(alloc: Global, mut asked: Asked) -> Question
-    ensures { result ≡ question_of asked }
+fn question_of_request(alloc: Global, mut asked: Asked) -> MethodAndTarget
+    ensures { result ≡ question_of_request asked }
 {
-    Question {
+    MethodAndTarget {
         method: replace(&mut asked.method, Method::GET),
         target: AskedTarget::Uri(replace(&mut asked.target.key, empty_key(alloc))),
     }
 }
 
 /// The same of the request that a step answered, if it did.
-pub(crate) fn question_if_answered(alloc: Global, asked: Option<Asked>) -> Option<Question>
-    ensures { result ≡ option_map question_of asked }
+pub(crate) fn question_of_asked_if_any(
+    alloc: Global,
+    asked: Option<Asked>,
+) -> Option<MethodAndTarget>
+    ensures { result ≡ option_map question_of_request asked }
 {
     match asked {
-        Some(asked) => Some(question_of(alloc, asked)),
+        Some(asked) => Some(question_of_request(alloc, asked)),
         None => None,
     }
 }
@@ -45,10 +48,10 @@ pub(crate) fn question_if_answered(alloc: Global, asked: Option<Asked>) -> Optio
 pub(crate) fn question_with_raw_target(
     alloc: Global,
     request: &Request,
-) -> Result<Question, AllocError>
+) -> Result<MethodAndTarget, AllocError>
     ensures { IfOk result (λ question. question ≡ question_with_raw_target request.now) }
 {
-    Ok(Question {
+    Ok(MethodAndTarget {
         method: request.method.clone()?,
         target: AskedTarget::AsItCame(request.target.copy(alloc)?),
     })

@@ -1,20 +1,21 @@
 //! What a client's stream asks for is done.
 ghost use Rattle.std.specs.Prelude.{◌≡◌, ℕ, ◌+◌, ◌<◌, ◌^◌, List, length, sum_by, true, Option, None, Some};
 ghost use Rattle.std.specs.Prelude.{is_some, IfOk, IfErr, OnOk, OnErr, Ok, Err, slice_index_or};
-ghost use Rattle.hx_fields.specs.declared.limits.TheConstants.{END_OF_TIME};
+ghost use Rattle.hx_fields.specs.declared.limits.TheConstants.{START_OF_YEAR_10000};
 ghost use Rattle.hx_framing.specs.declared.messages.Request.{Request};
 ghost use Rattle.hx_framing.specs.declared.messages.Next.{Next};
 ghost use Rattle.hx_framing.specs.declared.messages.Next.TheVariants as next;
-ghost use Rattle.proxy_engine.specs.Admitted.{asked_on_connection, CoreIsHandedRequest};
+ghost use Rattle.proxy_engine.specs.Admitted.{asked_closing_if_retired, CoreIsHandedRequest};
 ghost use Rattle.hx_hop.specs.Moments.{date_text_of};
-ghost use Rattle.proxy_core.specs.Abouts.{about_refusal_reply};
+ghost use Rattle.proxy_core.specs.Abouts.{report_of_refusal_reply};
 ghost use Rattle.proxy_core.specs.Replies.{refusal_reply_text};
 ghost use Rattle.proxy_core.specs.State.{State as CoreState};
 ghost use Rattle.proxy_engine.specs.EngineModel.{EngineModel};
-ghost use Rattle.proxy_engine.specs.Due.{Serves, IsDueFirst};
-ghost use Rattle.proxy_engine.specs.State.{EngineRepresents, engine_state, due_request_at, connection_is_free_at};
-ghost use Rattle.proxy_engine.specs.State.{is_retired_at};
-ghost use Rattle.proxy_engine.specs.State.{connection_work_left, work_left_of_state, EngineDoesAct};
+ghost use Rattle.proxy_engine.specs.Due.{Serves, IsFirstDueAct};
+ghost use Rattle.proxy_engine.specs.State.{EngineRepresents, engine_state_of_parts, due_request_at};
+ghost use Rattle.proxy_engine.specs.State.{connection_is_open_and_idle};
+ghost use Rattle.proxy_engine.specs.State.{is_retired_connection};
+ghost use Rattle.proxy_engine.specs.State.{work_left_of_connection, work_left_of_state, EngineDoesAct};
 ghost use Rattle.proxy_engine.specs.State.{NoActWasDoneBecauseOf};
 ghost use Rattle.proxy_engine.specs.Pairing.{activities_of_connections};
 ghost use Rattle.proxy_engine.specs.Actions.{IsActionForReaderAnswer};
@@ -25,12 +26,12 @@ use crate::endpoints::marks;
 use crate::endpoints::numbers::ConnectionPlace;
 use crate::engine::Engine;
 use crate::steps::actions::{Action, action_of};
-use crate::steps::outcomes::{as_alloc_error, effects_with_capacity, put, send_reply};
+use crate::steps::outcomes::{core_fault_as_alloc_error, effects_with_capacity, put, send_reply};
 use crate::work::EngineFault;
 use hx_fields::Bytes;
 use hx_framing::write_continue;
 use hx_hop::Asked;
-use hx_status::{Cause, Question, ReplyData};
+use hx_status::{Cause, MethodAndTarget, ReplyData};
 use hx_store::Shelf;
 use proxy_core::{ReplyTextAndAbout, is_head, refused};
 use proxy_script::Effect;
@@ -45,11 +46,11 @@ fn send_continue(
     requires { is_some (due_request_at (slice_index_or connections.old.items i None)) ≡ true }
     ensures ok { IfOk result (λ effects. (s : EngineModel) → (links : List (Option Link)) → (core : CoreState)
         → (first now : ℕ) → due_request_at (slice_index_or connections.old.items i None) ≡ Some next.NeedsContinue
-        → EngineRepresents (engine_state connections.old.items links core first) s
+        → EngineRepresents (engine_state_of_parts connections.old.items links core first) s
         → EngineDoesAct s now (Serves i next.NeedsContinue) effects.items
-        (engine_state connections.new.items links core first)) }
+        (engine_state_of_parts connections.new.items links core first)) }
     ensures less { OnOk result (due_request_at (slice_index_or connections.old.items i None) ≡ Some next.NeedsContinue
-        → sum_by connection_work_left connections.new.items < sum_by connection_work_left connections.old.items) }
+        → sum_by work_left_of_connection connections.new.items < sum_by work_left_of_connection connections.old.items) }
     ensures activities { activities_of_connections connections.new.items
         ≡ activities_of_connections connections.old.items }
     ensures err { OnErr result (connections.new ≡ connections.old) }
@@ -69,9 +70,9 @@ fn proxys_own_answer(
     why: Cause,
     head: bool,
 ) -> Result<ReplyTextAndAbout, AllocError>
-    requires { now < END_OF_TIME }
+    requires { now < START_OF_YEAR_10000 }
     ensures text { IfOk result (λ sent. sent.bytes ≡ refusal_reply_text (date_text_of now) why true head) }
-    ensures about { IfOk result (λ sent. sent.about ≡ about_refusal_reply why head) }
+    ensures about { IfOk result (λ sent. sent.about ≡ report_of_refusal_reply why head) }
 {
     refused(alloc, now, why, true, head)
 }
@@ -84,16 +85,17 @@ fn refuse(
     i: ConnectionPlace,
     why: Cause,
     head: bool,
-    question: Option<Question>,
+    question: Option<MethodAndTarget>,
 ) -> Result<Vec<Effect>, AllocError>
-    requires free { connection_is_free_at (slice_index_or connections.old.items i None) ≡ true }
-    requires early { now < END_OF_TIME }
+    requires free { connection_is_open_and_idle (slice_index_or connections.old.items i None) ≡ true }
+    requires early { now < START_OF_YEAR_10000 }
     ensures ok { IfOk result (λ effects. (s : EngineModel) → (links : List (Option Link)) → (core : CoreState)
         → (first : ℕ) → (a : Next Request) → IsActionForReaderAnswer a (Action.Refuse why head question)
-        → EngineRepresents (engine_state connections.old.items links core first) s
-        → EngineDoesAct s now (Serves i a) effects.items (engine_state connections.new.items links core first)) }
+        → EngineRepresents (engine_state_of_parts connections.old.items links core first) s
+        → EngineDoesAct s now (Serves i a) effects.items
+        (engine_state_of_parts connections.new.items links core first)) }
     ensures less { OnOk result
-        (sum_by connection_work_left connections.new.items < sum_by connection_work_left connections.old.items) }
+        (sum_by work_left_of_connection connections.new.items < sum_by work_left_of_connection connections.old.items) }
     ensures activities { activities_of_connections connections.new.items
         ≡ activities_of_connections connections.old.items }
     ensures err { OnErr result (connections.new ≡ connections.old) }
@@ -120,13 +122,14 @@ fn shut(
     alloc: Global,
     i: ConnectionPlace,
 ) -> Result<Vec<Effect>, AllocError>
-    requires { connection_is_free_at (slice_index_or connections.old.items i None) ≡ true }
+    requires { connection_is_open_and_idle (slice_index_or connections.old.items i None) ≡ true }
     ensures ok { IfOk result (λ effects. (s : EngineModel) → (links : List (Option Link)) → (core : CoreState)
         → (first now : ℕ) → (a : Next Request) → IsActionForReaderAnswer a Action.Close
-        → EngineRepresents (engine_state connections.old.items links core first) s
-        → EngineDoesAct s now (Serves i a) effects.items (engine_state connections.new.items links core first)) }
+        → EngineRepresents (engine_state_of_parts connections.old.items links core first) s
+        → EngineDoesAct s now (Serves i a) effects.items
+        (engine_state_of_parts connections.new.items links core first)) }
     ensures less { OnOk result
-        (sum_by connection_work_left connections.new.items < sum_by connection_work_left connections.old.items) }
+        (sum_by work_left_of_connection connections.new.items < sum_by work_left_of_connection connections.old.items) }
     ensures activities { activities_of_connections connections.new.items
         ≡ activities_of_connections connections.old.items }
     ensures err { OnErr result (connections.new ≡ connections.old) }
@@ -139,8 +142,8 @@ fn shut(
 }
 
 /// A request of a connection that is to end, or isn't: its answer closes one that is.
-fn asked_on_connection(mut asked: Asked, retired: bool) -> Asked
-    ensures { result ≡ asked_on_connection retired asked }
+fn asked_closing_if_retired(mut asked: Asked, retired: bool) -> Asked
+    ensures { result ≡ asked_closing_if_retired retired asked }
 {
     asked.close = asked.close || retired;
     asked
@@ -158,9 +161,9 @@ impl<S: Shelf> Engine<S> {
     ) -> Result<Vec<Effect>, AllocError>
         requires due { is_some (due_request_at (slice_index_or self.old.connections i None)) ≡ true }
         requires left { self.old.first + length self.old.links < 2 ^ 64 }
-        requires early { now < END_OF_TIME }
+        requires early { now < START_OF_YEAR_10000 }
         ensures ok { IfOk result (λ effects. (s : EngineModel) → (r : Request)
-            → CoreIsHandedRequest (is_retired_at (slice_index_or self.old.connections i None)) r asked
+            → CoreIsHandedRequest (is_retired_connection (slice_index_or self.old.connections i None)) r asked
             → due_request_at (slice_index_or self.old.connections i None) ≡ Some (next.Message r)
             → EngineRepresents self.old s → EngineDoesAct s now (Serves i (next.Message r)) effects.items self.new) }
         ensures less { OnOk result ((r : Request) → due_request_at (slice_index_or self.old.connections i None)
@@ -173,7 +176,7 @@ impl<S: Shelf> Engine<S> {
         let id = self.ends.connections.number_at(i);
         let outcome = match self.core.arrive(alloc, now, id, &asked) {
             Ok(outcome) => outcome,
-            Err(fault) => return Err(as_alloc_error(fault)),
+            Err(fault) => return Err(core_fault_as_alloc_error(fault)),
         };
         marks::use_due_answer_at(&mut self.ends.connections, i);
         let to_head = is_head(&asked);
@@ -200,9 +203,9 @@ impl<S: Shelf> Engine<S> {
         asked: Asked,
     ) -> Result<Vec<Effect>, EngineFault>
         requires due { is_some (due_request_at (slice_index_or self.old.connections i None)) ≡ true }
-        requires early { now < END_OF_TIME }
+        requires early { now < START_OF_YEAR_10000 }
         ensures ok { IfOk result (λ effects. (s : EngineModel) → (r : Request)
-            → CoreIsHandedRequest (is_retired_at (slice_index_or self.old.connections i None)) r asked
+            → CoreIsHandedRequest (is_retired_connection (slice_index_or self.old.connections i None)) r asked
             → due_request_at (slice_index_or self.old.connections i None) ≡ Some (next.Message r)
             → EngineRepresents self.old s → EngineDoesAct s now (Serves i (next.Message r)) effects.items self.new) }
         ensures less { OnOk result ((r : Request) → due_request_at (slice_index_or self.old.connections i None)
@@ -210,12 +213,12 @@ impl<S: Shelf> Engine<S> {
             → work_left_of_state self.new < work_left_of_state self.old) }
         ensures exhausted { result ≡ Err EngineFault.OutOfMemory → self.old.first + length self.old.links < 2 ^ 64 }
         ensures fault { IfErr result (λ fault. (s : EngineModel) → (r : Request)
-            → CoreIsHandedRequest (is_retired_at (slice_index_or self.old.connections i None)) r asked
-            → IsDueFirst s (Some (Serves i (next.Message r)))
+            → CoreIsHandedRequest (is_retired_connection (slice_index_or self.old.connections i None)) r asked
+            → IsFirstDueAct s (Some (Serves i (next.Message r)))
             → EngineRepresents self.old s → NoActWasDoneBecauseOf s fault) }
         ensures err { OnErr result (self.new ≡ self.old) }
     {
-        if self.ends.is_exhausted() {
+        if self.ends.has_no_link_number_left() {
             return Err(EngineFault::Spent);
         }
         match self.admit(alloc, now, i, asked) {
@@ -232,13 +235,13 @@ impl<S: Shelf> Engine<S> {
         i: ConnectionPlace,
     ) -> Result<Vec<Effect>, EngineFault>
         requires due { is_some (due_request_at (slice_index_or self.old.connections i None)) ≡ true }
-        requires early { now < END_OF_TIME }
+        requires early { now < START_OF_YEAR_10000 }
         ensures ok { IfOk result (λ effects. (s : EngineModel) → (a : Next Request)
             → due_request_at (slice_index_or self.old.connections i None) ≡ Some a
             → EngineRepresents self.old s → EngineDoesAct s now (Serves i a) effects.items self.new) }
         ensures less { OnOk result (work_left_of_state self.new < work_left_of_state self.old) }
         ensures fault { IfErr result (λ fault. (s : EngineModel) → (a : Next Request)
-            → due_request_at (slice_index_or self.old.connections i None) ≡ Some a → IsDueFirst s (Some (Serves i a))
+            → due_request_at (slice_index_or self.old.connections i None) ≡ Some a → IsFirstDueAct s (Some (Serves i a))
             → EngineRepresents self.old s → NoActWasDoneBecauseOf s fault) }
         ensures err { OnErr result (self.new ≡ self.old) }
     {
@@ -253,7 +256,7 @@ impl<S: Shelf> Engine<S> {
             },
             Action::Arrive(asked) => {
                 let retired = self.ends.connections.is_retired(i);
-                let asked = asked_on_connection(asked, retired);
+                let asked = asked_closing_if_retired(asked, retired);
                 self.arrive(alloc, now, i, asked)
             }
             Action::Refuse(why, head, question) => match refuse(

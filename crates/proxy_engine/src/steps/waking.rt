@@ -1,10 +1,10 @@
 //! A request that waited for the answer to another is judged anew.
 ghost use Rattle.std.specs.Prelude.{◌≡◌, ◌+◌, ◌<◌, ◌^◌, length, Some, IfOk, IfErr, OnOk, OnErr};
-ghost use Rattle.hx_fields.specs.declared.limits.TheConstants.{END_OF_TIME};
+ghost use Rattle.hx_fields.specs.declared.limits.TheConstants.{START_OF_YEAR_10000};
 ghost use Rattle.proxy_core.specs.Waiting.{ExchangeMayBeWoken};
-ghost use Rattle.proxy_engine.specs.ConnectionNumbers.{connection_number};
+ghost use Rattle.proxy_engine.specs.ConnectionNumbers.{connection_number_of_place};
 ghost use Rattle.proxy_engine.specs.EngineModel.{EngineModel};
-ghost use Rattle.proxy_engine.specs.Due.{Wakes, IsDueFirst};
+ghost use Rattle.proxy_engine.specs.Due.{Wakes, IsFirstDueAct};
 ghost use Rattle.proxy_engine.specs.State.{EngineRepresents, NoDisconnectedClientHasExchange, work_left_of_state};
 ghost use Rattle.proxy_engine.specs.State.{EngineDoesAct};
 ghost use Rattle.proxy_engine.specs.State.{NoActWasDoneBecauseOf};
@@ -13,7 +13,7 @@ use crate::endpoints::marks;
 use crate::endpoints::numbers::ConnectionPlace;
 use crate::engine::Engine;
 use crate::steps::finishing::exchange_asks_head;
-use crate::steps::outcomes::{as_alloc_error, effects_with_capacity};
+use crate::steps::outcomes::{core_fault_as_alloc_error, effects_with_capacity};
 use crate::work::EngineFault;
 use hx_store::Shelf;
 use proxy_script::Effect;
@@ -28,10 +28,10 @@ impl<S: Shelf> Engine<S> {
         now: u64,
         i: ConnectionPlace,
     ) -> Result<Vec<Effect>, AllocError>
-        requires ready { ExchangeMayBeWoken (connection_number i) self.old.core.exchanges }
+        requires ready { ExchangeMayBeWoken (connection_number_of_place i) self.old.core.exchanges }
         requires here { NoDisconnectedClientHasExchange self.old.connections }
         requires left { self.old.first + length self.old.links < 2 ^ 64 }
-        requires early { now < END_OF_TIME }
+        requires early { now < START_OF_YEAR_10000 }
         ensures ok { IfOk result (λ effects. (s : EngineModel) → EngineRepresents self.old s
             → EngineDoesAct s now (Wakes i) effects.items self.new) }
         ensures less { OnOk result (work_left_of_state self.new < work_left_of_state self.old) }
@@ -43,9 +43,9 @@ impl<S: Shelf> Engine<S> {
         let to_head = exchange_asks_head(&self.core, id);
         let step = match self.core.wake(alloc, now, id) {
             Ok(step) => step,
-            Err(fault) => return Err(as_alloc_error(fault)),
+            Err(fault) => return Err(core_fault_as_alloc_error(fault)),
         };
-        marks::mark_free_at(&mut self.ends.connections, i);
+        marks::mark_exchange_ended_at(&mut self.ends.connections, i);
         let config = self.core.config();
         self.ends.carry_out(
             &mut effects,
@@ -67,18 +67,18 @@ impl<S: Shelf> Engine<S> {
         now: u64,
         i: ConnectionPlace,
     ) -> Result<Vec<Effect>, EngineFault>
-        requires ready { ExchangeMayBeWoken (connection_number i) self.old.core.exchanges }
+        requires ready { ExchangeMayBeWoken (connection_number_of_place i) self.old.core.exchanges }
         requires here { NoDisconnectedClientHasExchange self.old.connections }
-        requires early { now < END_OF_TIME }
+        requires early { now < START_OF_YEAR_10000 }
         ensures ok { IfOk result (λ effects. (s : EngineModel) → EngineRepresents self.old s
             → EngineDoesAct s now (Wakes i) effects.items self.new) }
         ensures less { OnOk result (work_left_of_state self.new < work_left_of_state self.old) }
         ensures exhausted { result ≡ Err EngineFault.OutOfMemory → self.old.first + length self.old.links < 2 ^ 64 }
-        ensures fault { IfErr result (λ fault. (s : EngineModel) → IsDueFirst s (Some (Wakes i))
+        ensures fault { IfErr result (λ fault. (s : EngineModel) → IsFirstDueAct s (Some (Wakes i))
             → EngineRepresents self.old s → NoActWasDoneBecauseOf s fault) }
         ensures err { OnErr result (self.new ≡ self.old) }
     {
-        if self.ends.is_exhausted() {
+        if self.ends.has_no_link_number_left() {
             return Err(EngineFault::Spent);
         }
         match self.wake_at(alloc, now, i) {

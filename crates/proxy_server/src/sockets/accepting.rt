@@ -19,7 +19,7 @@ fn register_client(peer: &mut Peer<Socket>, poll: &Poll, key: usize) -> io::Resu
 
 impl<'a, R: Net> LiveSockets<'a, R> {
     /// Whether a connection may wait to be taken.
-    pub(crate) fn may_accept(&self) -> bool
+    pub(crate) fn connection_may_be_waiting(&self) -> bool
         ensures { result ≡ (self.entry.now.acceptable && is_some self.entry.now.listener) }
     {
         self.acceptable && self.listener.is_some()
@@ -67,7 +67,7 @@ impl<'a, R: Net> LiveSockets<'a, R> {
         ensures calls { self.new.calls ≡ self.old.calls }
     {
         self.may_have_room = false;
-        if !self.clients.make_room_for_a_stream(self.now) {
+        if !self.clients.make_room_for_a_client_stream(self.now) {
             self.in_hand = Some((stream, address));
             return false;
         }
@@ -118,7 +118,7 @@ impl<'a, R: Net> LiveSockets<'a, R> {
         let Some(key) = self.clients.add(peer, n, self.now) else {
             return Err(io::Error::from(ErrorKind::OutOfMemory));
         };
-        if let Some(client) = self.clients.stream_mut(key) {
+        if let Some(client) = self.clients.client_at_key_mut(key) {
             if self.log.is_some() && client.begin_log(address).is_err() {
                 let _ = self.clients.forget(n, UnansweredCause::Closed);
                 return Err(io::Error::from(ErrorKind::OutOfMemory));

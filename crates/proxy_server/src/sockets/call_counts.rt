@@ -2,7 +2,7 @@
 ghost use Rattle.std.specs.Prelude.{◌≡◌};
 ghost use Rattle.proxy_turn.specs.Counts.{CountRisesBy, failed};
 
-use proxy_turn::SocketFailed;
+use proxy_turn::SocketCallFailed;
 
 /// How many accepts and reads were asked for, and how many calls failed.
 #[derive(Clone, Copy, Debug)]
@@ -24,7 +24,7 @@ impl CallCounts {
     }
 
     /// Counts a call that has failed.
-    pub(crate) fn count_failure<T>(&mut self, outcome: &Result<T, SocketFailed>)
+    pub(crate) fn count_if_call_failed<T>(&mut self, outcome: &Result<T, SocketCallFailed>)
         ensures failures { CountRisesBy self.old.failures self.new.failures (failed outcome.now) }
         ensures rest { self.new ≡ record self.old { failures = self.new.failures } }
     {

@@ -5,9 +5,9 @@ use crate::sockets::live_sockets::LiveSockets;
 use hx_status::FailKind;
 use mio::net::TcpStream;
 use proxy_ends::{Link, SECOND};
-use proxy_figures::{Admission, is_out_of_descriptors, is_out_of_ports};
+use proxy_figures::{LinkAdmission, is_out_of_descriptors, is_out_of_ports};
 use proxy_streams::{Peer, Socket};
-use proxy_turn::SocketFailed;
+use proxy_turn::SocketCallFailed;
 use std::alloc::Global;
 use std::io;
 use std::net::{Net, SocketAddr, SocketAddrV4};
@@ -38,21 +38,25 @@ impl<'a, R: Net> LiveSockets<'a, R> {
     }
 
     /// Begins a link to an origin under this number, where one may be begun and can be.
-    pub(crate) fn connect_link(&mut self, l: u64, address: SocketAddrV4) -> Result<(), SocketFailed>
+    pub(crate) fn connect_link(
+        &mut self,
+        l: u64,
+        address: SocketAddrV4,
+    ) -> Result<(), SocketCallFailed>
         ensures calls { self.new.calls ≡ self.old.calls }
     {
         let Ok(origin) = self.links.origins.place(address) else {
-            return Err(SocketFailed);
+            return Err(SocketCallFailed);
         };
         let admission = self.links.origins.admit(origin, self.limits.origin_probe);
         let peer = self.begin_admitted(address, origin, admission);
         let is_lost = peer.is_none();
         let link = Link::new(peer, self.now, origin, admission);
         if !self.links.put(l, link, self.now.saturating_add(SECOND)) {
-            return Err(SocketFailed);
+            return Err(SocketCallFailed);
         }
         if is_lost {
-            return self.disconnect_link(l, FailKind::Refused);
+            return self.defer_link_failure(l, FailKind::Refused);
         }
         Ok(())
     }
@@ -62,11 +66,11 @@ impl<'a, R: Net> LiveSockets<'a, R> {
         &mut self,
         address: SocketAddrV4,
         origin: usize,
-        admission: Admission,
+        admission: LinkAdmission,
     ) -> Option<Peer<Socket>>
         ensures calls { self.new.calls ≡ self.old.calls }
     {
-        if admission == Admission::No {
+        if admission == LinkAdmission::No {
             return None;
         }
         match self.begin(address) {

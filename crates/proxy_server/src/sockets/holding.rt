@@ -10,7 +10,7 @@ impl<'a, R: Net> LiveSockets<'a, R> {
     /// Where more is held for requests and answers than may be, an end gives way: of the clients that have taken
     /// nothing for a second the one for which the most is held; or else the end for which the most is, no less than
     /// what came last.
-    pub(crate) fn drop_largest_beyond_limit(&mut self)
+    pub(crate) fn drop_largest_end_beyond_limit(&mut self)
         ensures calls { self.new.calls ≡ self.old.calls }
     {
         if self.clients.held().saturating_add(self.links.held()) > self.limits.content {
@@ -26,9 +26,12 @@ impl<'a, R: Net> LiveSockets<'a, R> {
         match (of_clients, self.links.largest()) {
             (Some(client), Some((_, of_link))) if client.takes_nothing || client.held >= of_link =>
                 {
-                    self.clients.cut_stream(client.key, CutReason::Content);
+                    self.clients
+                        .drop_stream_and_count(client.key, CutReason::Content);
                 }
-            (Some(client), None) => self.clients.cut_stream(client.key, CutReason::Content),
+            (Some(client), None) => self
+                .clients
+                .drop_stream_and_count(client.key, CutReason::Content),
             (_, Some((l, _))) => self.cut_link(l),
             (None, None) => {}
         }

@@ -10,16 +10,16 @@ ghost use Rattle.proxy_figures.specs.LineOrigins.{LinesHavePlacesOfTheirOrigins}
 ghost use Rattle.proxy_ends.specs.Connecting.{link_is_connecting};
 ghost use Rattle.proxy_ends.specs.OtherEntries.{EntriesOfOtherNumbersStay, ChangesOnlyAtNumber};
 ghost use Rattle.proxy_server.specs.Forgetting.{ClientStreamIsDropped, LinkStreamIsDropped};
-ghost use Rattle.proxy_ends.specs.Closing.{StreamIsClosedByNumber};
+ghost use Rattle.proxy_ends.specs.Closing.{ClosingByNumberDropsAtMostOneOther};
 ghost use Rattle.proxy_server.specs.OriginsOfLines.{origins_of_lines};
 ghost use Rattle.proxy_server.specs.Paces.{milliseconds_of_moment};
 ghost use Rattle.std.specs.Prelude.{nat_lt};
 ghost use Rattle.slab.specs.Slab.{slab_len};
 
-use crate::pace::turn_end_of;
+use crate::pace::turn_end_of_report;
 use crate::sockets::call_counts::CallCounts;
 use crate::sockets::table_origins::place_origins;
-use hx_allow::Config;
+use hx_allow::Table;
 use hx_status::{FailKind, ReplyData};
 use mio::net::{TcpListener, TcpStream};
 use mio::{Events, Interest, Poll};
@@ -33,7 +33,7 @@ use proxy_figures::{
 };
 use proxy_listener::{ListenAt, listen};
 use proxy_log::{Lines, LoggedRequest};
-use proxy_turn::{End, Received, Report, SocketFailed, Sockets, TurnFault};
+use proxy_turn::{End, Received, Report, SocketCallFailed, Sockets, TurnFault};
 use std::alloc::{AllocError, Global};
 use std::collections::VecDeque;
 use std::io;
@@ -120,7 +120,12 @@ impl<'a, R: Net> Drop for LiveSockets<'a, R> {
 }
 
 /// Reads from the link of a number. After a failure its stream is dropped; of one without a stream nothing comes.
-fn read_link(links: &mut Links, l: u64, buf: &mut [u8], now: u64) -> Result<Received, SocketFailed>
+fn read_link(
+    links: &mut Links,
+    l: u64,
+    buf: &mut [u8],
+    now: u64,
+) -> Result<Received, SocketCallFailed>
     ensures within { IfOk result (ReceivedBytesAreAtMostRoom (length buf.old)) }
     ensures length { length buf.new ≡ length buf.old }
     ensures others { EntriesOfOtherNumbersStay l links.old.items links.new.items }
@@ -129,7 +134,7 @@ fn read_link(links: &mut Links, l: u64, buf: &mut [u8], now: u64) -> Result<Rece
         return Ok(received);
     }
     links.drop_stream(l);
-    Err(SocketFailed)
+    Err(SocketCallFailed)
 }
 
 /// Reads from the client of a number. After a failure its stream is dropped, and it has departed; of one that isn't
@@ -140,7 +145,7 @@ fn read_client(
     n: u64,
     buf: &mut [u8],
     now: u64,
-) -> Result<Received, SocketFailed>
+) -> Result<Received, SocketCallFailed>
     ensures within { IfOk result (ReceivedBytesAreAtMostRoom (length buf.old)) }
     ensures length { length buf.new ≡ length buf.old }
     ensures open { EntriesOfOtherNumbersStay n clients.old.open clients.new.open }
@@ -150,7 +155,7 @@ fn read_client(
         return Ok(received);
     }
     *departed = clients.forget(n, UnansweredCause::Closed);
-    Err(SocketFailed)
+    Err(SocketCallFailed)
 }
 
 /// Adds an end to those that are read next. A client is cut off where there is no memory for that; a link is silent
@@ -161,7 +166,7 @@ fn list(ready: &mut VecDeque<End>, clients: &mut Clients, end: End) {
     }
     if let End::Client(n) = end {
         if let Some(key) = clients.key_of(n) {
-            clients.cut_stream(key, CutReason::Memory);
+            clients.drop_stream_and_count(key, CutReason::Memory);
         }
     }
 }
@@ -170,12 +175,12 @@ fn list(ready: &mut VecDeque<End>, clients: &mut Clients, end: End) {
 fn read_piece(
     clients: &mut Clients,
     end: End,
-    received: &Result<Received, SocketFailed>,
+    received: &Result<Received, SocketCallFailed>,
     buf: &[u8],
 ) {
     if let (End::Client(n), Ok(Received::Bytes(count))) = (end, received) {
         if let (Some(client), Some(piece)) = (clients.get_mut(n), buf.get(..*count)) {
-            client.read_piece(piece);
+            client.keep_piece_for_log(piece);
         }
     }
 }
@@ -238,7 +243,7 @@ impl<'a, R: Net> LiveSockets<'a, R> {
 
     /// Takes the origins of the lines of a table: those that replies name, and that are counted. Its only error is out
     /// of memory.
-    fn take_origins(&mut self, table: &Config) -> Result<(), AllocError>
+    fn take_origins(&mut self, table: &Table) -> Result<(), AllocError>
         ensures placed { OnOk result (LinesHavePlacesOfTheirOrigins
             (origins_of_lines table.now.lines (min (length table.now.lines) MOST_LINES))
             self.new.line_origins.places.items self.new.links.origins) }
@@ -253,7 +258,7 @@ impl<'a, R: Net> LiveSockets<'a, R> {
 
     /// Keeps a line about each reply from now on, which names the origin that the table has for it. Its only error is
     /// out of memory.
-    pub fn begin_log(&mut self, table: &Config) -> Result<(), AllocError>
+    pub fn start_keeping_log_lines(&mut self, table: &Table) -> Result<(), AllocError>
         ensures kept { OnOk result (is_some self.new.log ≡ true) }
         ensures rest { self.new ≡ record self.old {
           links = self.new.links;
@@ -267,7 +272,7 @@ impl<'a, R: Net> LiveSockets<'a, R> {
     }
 
     /// Counts replies from now on, and what the origins of a table do. Its only error is out of memory.
-    pub fn begin_counts(&mut self, table: &Config) -> Result<(), AllocError>
+    pub fn start_counting_replies(&mut self, table: &Table) -> Result<(), AllocError>
         ensures kept { OnOk result (is_some self.new.replies ≡ true) }
         ensures rest { self.new ≡ record self.old {
           links = self.new.links;
@@ -330,7 +335,7 @@ impl<'a, R: Net> LiveSockets<'a, R> {
 
     /// Takes what has come since the wait, without waiting: a signal may have ended the wait before it told of
     /// anything.
-    pub fn look_again(&mut self) -> io::Result<()> {
+    pub fn poll_without_waiting(&mut self) -> io::Result<()> {
         self.poll
             .poll(&mut self.events, Some(Duration::from_millis(0)))?;
         self.take_events();
@@ -356,18 +361,18 @@ impl<'a, R: Net> LiveSockets<'a, R> {
             match TokenHolder::of(event.token()) {
                 TokenHolder::Listener => self.acceptable = true,
                 TokenHolder::Link(l) => {
-                    if self.links.mark_ready(l, event, self.now).is_err() {
+                    if self.links.note_socket_event(l, event, self.now).is_err() {
                         self.links.count_failed_connect(l);
                         self.links.drop_stream(l);
                         // Where there is no memory for it, it counts as silent.
                         let _ = self.lost.push((l, FailKind::Refused));
-                    } else if self.links.begin_listing(l) {
+                    } else if self.links.mark_listed_if_readable(l) {
                         list(&mut self.ready, &mut self.clients, End::Link(l));
                     }
                 }
                 TokenHolder::Client(key) => {
-                    self.clients.mark_ready(key, event, self.now);
-                    if let Some(n) = self.clients.begin_listing(key) {
+                    self.clients.note_socket_event(key, event, self.now);
+                    if let Some(n) = self.clients.mark_listed_if_readable(key) {
                         list(&mut self.ready, &mut self.clients, End::Client(n));
                     }
                 }
@@ -381,11 +386,11 @@ impl<'a, R: Net> LiveSockets<'a, R> {
     {
         let is_new = match end {
             End::Listener => false,
-            End::Link(l) => self.links.begin_listing(l),
+            End::Link(l) => self.links.mark_listed_if_readable(l),
             End::Client(n) => match self.clients.key_of(n) {
                 Some(key) => {
-                    self.clients.mark_request_begun(key, self.now);
-                    self.clients.begin_listing(key).is_some()
+                    self.clients.list_as_droppable_for_room(key, self.now);
+                    self.clients.mark_listed_if_readable(key).is_some()
                 }
                 None => false,
             },
@@ -435,7 +440,7 @@ impl<'a, R: Net> LiveSockets<'a, R> {
         }
         match &self.in_hand {
             Some(_) => self.may_have_room || self.may_give_way || self.has_room(),
-            None => self.may_accept(),
+            None => self.connection_may_be_waiting(),
         }
     }
 
@@ -448,8 +453,8 @@ impl<'a, R: Net> LiveSockets<'a, R> {
             };
             let is_there = match end {
                 End::Listener => false,
-                End::Link(l) => self.links.end_listing(l),
-                End::Client(n) => self.clients.end_listing(n),
+                End::Link(l) => self.links.unmark_listed_to_read(l),
+                End::Client(n) => self.clients.unmark_listed_to_read(n),
             };
             if is_there && ends.push(end).is_err() {
                 self.list_again(end);
@@ -466,7 +471,7 @@ impl<'a, R: Net> LiveSockets<'a, R> {
     }
 
     /// An end that failed since it was last asked, and how. Its stream is gone.
-    pub fn take_lost_client(&mut self) -> Option<(End, FailKind)>
+    pub fn take_lost_end(&mut self) -> Option<(End, FailKind)>
         ensures { self.new ≡ record self.old {
           lost = self.new.lost;
           clients = self.new.clients;
@@ -506,11 +511,11 @@ impl<'a, R: Net> LiveSockets<'a, R> {
     }
 
     /// A turn was served that read these ends. Those that may give more are read again.
-    pub fn note_turn(&mut self, ends: &[End], reported: Result<Report, TurnFault>) {
+    pub fn requeue_ends_after_turn(&mut self, ends: &[End], reported: Result<Report, TurnFault>) {
         for end in ends {
             self.list_again(*end);
         }
-        self.turns.count(turn_end_of(reported));
+        self.turns.count(turn_end_of_report(reported));
         self.count_lost_lines();
     }
 
@@ -529,10 +534,12 @@ impl<'a, R: Net> LiveSockets<'a, R> {
     pub fn schedule_check_of_end(&mut self, end: End) {
         match end {
             End::Listener => {}
-            End::Link(l) => self.links.look_again(l, self.now, &self.limits),
+            End::Link(l) => self
+                .links
+                .reschedule_timeout_check(l, self.now, &self.limits),
             End::Client(n) => {
                 if let Some(key) = self.clients.key_of(n) {
-                    self.clients.look_again(key, self.now);
+                    self.clients.reschedule_timeout_check(key, self.now);
                 }
             }
         }
@@ -540,14 +547,14 @@ impl<'a, R: Net> LiveSockets<'a, R> {
 
     /// A client that has sent its end, where nearly as many links to an origin are open as may be: if it waits for an
     /// answer, that is given up for those who still listen.
-    pub fn next_half_closed(&mut self) -> Option<u64>
+    pub fn next_half_closed_when_crowded(&mut self) -> Option<u64>
         ensures crowded { some_origin_is_crowded self.old.links.origins ≡ false → result ≡ None }
         ensures rest { self.new ≡ record self.old { clients = self.new.clients } }
     {
         if !self.links.origins.some_origin_is_crowded() {
             return None;
         }
-        self.clients.next_half_closed()
+        self.clients.take_first_half_closed()
     }
 
     /// A client that has sent its end doesn't wait for an answer yet.
@@ -567,7 +574,7 @@ impl<'a, R: Net> LiveSockets<'a, R> {
             no_descriptor: self.accept_counts.no_descriptor,
             no_link: self.accept_counts.no_link,
             no_port: self.accept_counts.no_port,
-            beyond_bound: origins.beyond_bound(),
+            refused_beyond_bound: origins.refused_beyond_bound(),
             silent: if self.limits.origin_probe {
                 origins.times_fallen_silent()
             } else {
@@ -604,7 +611,7 @@ impl<'a, R: Net> LiveSockets<'a, R> {
         if let Some(replied) = replied {
             self.note_answered(n, replied);
         }
-        self.drop_largest_beyond_limit();
+        self.drop_largest_end_beyond_limit();
     }
 
     /// The request of a client was answered by this reply: it may be read again.
@@ -617,18 +624,18 @@ impl<'a, R: Net> LiveSockets<'a, R> {
         let took = self.clients.answered(key, self.now);
         self.may_have_room = true;
         if self.notes_replies() {
-            self.note_reply(key, replied, took);
+            self.count_and_log_reply(key, replied, took);
         }
         self.list_again(End::Client(n));
     }
 
-    fn write_link(&mut self, l: u64, bytes: &[u8]) -> Result<(), SocketFailed>
+    fn write_link(&mut self, l: u64, bytes: &[u8]) -> Result<(), SocketCallFailed>
         ensures connected { link_is_connecting (get nat_cmp self.old.links.items l) ≡ false → IsOk result
             × (self.new.lost ≡ self.old.lost) }
         ensures calls { self.new.calls ≡ self.old.calls }
     {
         let was_connecting = self.links.is_connecting(l);
-        self.links.send_without_delay(l, bytes.len());
+        self.links.set_no_delay_if_many_segments(l, bytes.len());
         // What an origin had said before it broke off can still be read; its end is told then. A link is written to
         // once, so where all of it went out its events are those of reading.
         let is_written = self.links.write(l, bytes, self.now);
@@ -639,22 +646,26 @@ impl<'a, R: Net> LiveSockets<'a, R> {
             self.links.count_failed_connect(l);
         }
         self.links.drop_stream(l);
-        self.disconnect_link(l, FailKind::Refused)
+        self.defer_link_failure(l, FailKind::Refused)
     }
 
     /// Keeps until the next turn begins that a link has failed.
-    pub(crate) fn disconnect_link(&mut self, l: u64, kind: FailKind) -> Result<(), SocketFailed>
+    pub(crate) fn defer_link_failure(
+        &mut self,
+        l: u64,
+        kind: FailKind,
+    ) -> Result<(), SocketCallFailed>
         ensures calls { self.new.calls ≡ self.old.calls }
     {
         if self.lost.push((l, kind)).is_ok() {
             return Ok(());
         }
         self.links.remove(l, self.now);
-        Err(SocketFailed)
+        Err(SocketCallFailed)
     }
 
     /// Reads from a link. That it has failed is kept until the next turn begins.
-    fn read_from_link(&mut self, l: u64, buf: &mut [u8]) -> Result<Received, SocketFailed>
+    fn read_from_link(&mut self, l: u64, buf: &mut [u8]) -> Result<Received, SocketCallFailed>
         ensures within { IfOk result (ReceivedBytesAreAtMostRoom (length buf.old)) }
         ensures length { length buf.new ≡ length buf.old }
         ensures calls { self.new.calls ≡ self.old.calls }
@@ -662,14 +673,14 @@ impl<'a, R: Net> LiveSockets<'a, R> {
         if let Ok(received) = read_link(&mut self.links, l, buf, self.now) {
             return Ok(received);
         }
-        self.disconnect_link(l, FailKind::Closed)?;
+        self.defer_link_failure(l, FailKind::Closed)?;
         Ok(Received::Nothing)
     }
 }
 
 impl<'a, R: Net> LiveSockets<'a, R> {
     /// Reads from a client. One that has broken off had no request that went forward.
-    fn read_from_client(&mut self, n: u64, buf: &mut [u8]) -> Result<Received, SocketFailed>
+    fn read_from_client(&mut self, n: u64, buf: &mut [u8]) -> Result<Received, SocketCallFailed>
         ensures within { IfOk result (ReceivedBytesAreAtMostRoom (length buf.old)) }
         ensures length { length buf.new ≡ length buf.old }
         ensures calls { self.new.calls ≡ self.old.calls }
@@ -704,12 +715,12 @@ impl<'a, R: Net> Sockets for LiveSockets<'a, R> {
 
     ghost joined = { λ s t u a b first second. tt };
 
-    fn accept(&mut self, n: u64) -> Result<bool, SocketFailed> {
+    fn accept(&mut self, n: u64) -> Result<bool, SocketCallFailed> {
         self.calls.accepts = self.calls.accepts.saturating_add(1);
         Ok(self.take_connection(n))
     }
 
-    fn read(&mut self, end: End, buf: &mut [u8]) -> Result<Received, SocketFailed> {
+    fn read(&mut self, end: End, buf: &mut [u8]) -> Result<Received, SocketCallFailed> {
         self.calls.reads = self.calls.reads.saturating_add(1);
         let received = match end {
             End::Listener => Ok(Received::Nothing),
@@ -719,8 +730,8 @@ impl<'a, R: Net> Sockets for LiveSockets<'a, R> {
         if self.log.is_some() {
             read_piece(&mut self.clients, end, &received, buf);
         }
-        self.drop_largest_beyond_limit();
-        self.calls.count_failure(&received);
+        self.drop_largest_end_beyond_limit();
+        self.calls.count_if_call_failed(&received);
         received
     }
 
@@ -729,7 +740,7 @@ impl<'a, R: Net> Sockets for LiveSockets<'a, R> {
         end: End,
         bytes: &[u8],
         replied: Option<&ReplyData>,
-    ) -> Result<(), SocketFailed> {
+    ) -> Result<(), SocketCallFailed> {
         let written = match end {
             End::Listener => Ok(()),
             End::Client(n) => {
@@ -738,17 +749,17 @@ impl<'a, R: Net> Sockets for LiveSockets<'a, R> {
             }
             End::Link(l) => self.write_link(l, bytes),
         };
-        self.calls.count_failure(&written);
+        self.calls.count_if_call_failed(&written);
         written
     }
 
-    fn connect(&mut self, link: u64, address: SocketAddrV4) -> Result<(), SocketFailed> {
+    fn connect(&mut self, link: u64, address: SocketAddrV4) -> Result<(), SocketCallFailed> {
         let connected = self.connect_link(link, address);
-        self.calls.count_failure(&connected);
+        self.calls.count_if_call_failed(&connected);
         connected
     }
 
-    fn shut(&mut self, end: End) -> Result<(), SocketFailed> {
+    fn shut(&mut self, end: End) -> Result<(), SocketCallFailed> {
         match end {
             End::Client(n) => self.close_client(n),
             End::Link(l) => self.links.remove(l, self.now),

@@ -40,7 +40,7 @@ impl<'a, R: Net> LiveSockets<'a, R> {
     }
 
     /// Counts a reply that took so many milliseconds, and adds the line about it, to the client of this key.
-    pub(crate) fn note_reply(&mut self, key: usize, replied: &ReplyData, took: u64)
+    pub(crate) fn count_and_log_reply(&mut self, key: usize, replied: &ReplyData, took: u64)
         ensures calls { self.new.calls ≡ self.old.calls }
     {
         let about = &replied.about;

@@ -4,14 +4,14 @@ ghost use Rattle.hx_allow.specs.declared.limits.TheConstants.{MOST_LINES};
 ghost use Rattle.proxy_figures.specs.LineOrigins.{LinesHavePlacesOfTheirOrigins};
 ghost use Rattle.proxy_server.specs.OriginsOfLines.{origins_of_lines};
 
-use hx_allow::{Config, MOST_LINES};
+use hx_allow::{MOST_LINES, Table};
 use proxy_figures::{LineOrigins, Origins};
 use std::alloc::{AllocError, Global};
 
 /// The places of the origins of a table's lines, which are added where they are new. Its only error is out of memory.
 pub(crate) fn place_origins(
     alloc: Global,
-    table: &Config,
+    table: &Table,
     origins: &mut Origins,
 ) -> Result<LineOrigins, AllocError>
     ensures { IfOk result (λ placed. LinesHavePlacesOfTheirOrigins

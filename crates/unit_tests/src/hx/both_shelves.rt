@@ -118,7 +118,7 @@ fn found<S: Shelf>(alloc: Global, shelf: &S, path: &str) -> Result<u64, AllocErr
     let key = key(alloc, path)?;
     let mut sum = joined(u64::from(shelf.has_key(&key)), &shelf.find(alloc, &key)?);
     for n in 0..REQUESTS {
-        let matching = shelf.find_matching(alloc, &key, &request(alloc, n)?)?;
+        let matching = shelf.find_matching_serials(alloc, &key, &request(alloc, n)?)?;
         sum = joined(sum, &matching);
     }
     Ok(sum)
@@ -157,7 +157,7 @@ fn answer<S: Shelf>(alloc: Global, shelf: &mut S, call: Call) -> Result<u64, Fai
             Ok(shelf.invalidate(&key) as u64)
         }
         Call::Find(serial) => Ok(found(alloc, shelf, path_of(serial))?),
-        Call::Shed(most) if most < BYTES => match shelf.shed(most) {
+        Call::Shed(most) if most < BYTES => match shelf.evict_last_beyond_weight(most) {
             Some(entry) => Ok(entry.serial),
             None => Ok(0),
         },

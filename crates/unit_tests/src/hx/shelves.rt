@@ -107,11 +107,11 @@ fn entries_are_found_by_key(rt: HostRuntime) -> Result<(), Fail> {
 const ENTRY_WEIGHS: u64 = 1_287;
 
 /// Sheds an entry where more than so many bytes are held, and gives its serial.
-fn shed<S: Shelf>(shelf: &mut S, most: u64) -> Result<Option<u64>, Fail> {
+fn evict_last_beyond_weight<S: Shelf>(shelf: &mut S, most: u64) -> Result<Option<u64>, Fail> {
     if most > ENTRY_WEIGHS * 3 {
         return Err("a bound of these entries".into());
     }
-    match shelf.shed(most) {
+    match shelf.evict_last_beyond_weight(most) {
         Some(entry) => Ok(Some(entry.serial)),
         None => Ok(None),
     }
@@ -128,13 +128,16 @@ fn weighs_and_sheds<S: Shelf>(rt: &impl Abort, alloc: Global, shelf: &mut S) -> 
     }
     assert!(rt; shelf.promote(1));
     assert_eq!(rt; shelf.weight(), 3 * ENTRY_WEIGHS);
-    assert_eq!(rt; shed(shelf, 3 * ENTRY_WEIGHS)?, None);
-    assert_eq!(rt; shed(shelf, 3 * ENTRY_WEIGHS - 1)?, Some(2));
+    assert_eq!(rt; evict_last_beyond_weight(shelf, 3 * ENTRY_WEIGHS)?, None);
+    assert_eq!(rt;
+        evict_last_beyond_weight(shelf, 3 * ENTRY_WEIGHS - 1)?,
+        Some(2)
+    );
     assert_eq!(rt; shelf.weight(), 2 * ENTRY_WEIGHS);
     evict_to_weight(shelf, ENTRY_WEIGHS);
     assert_eq!(rt; shelf.weight(), ENTRY_WEIGHS);
-    assert_eq!(rt; shed(shelf, 0)?, Some(1));
-    assert_eq!(rt; shed(shelf, 0)?, None);
+    assert_eq!(rt; evict_last_beyond_weight(shelf, 0)?, Some(1));
+    assert_eq!(rt; evict_last_beyond_weight(shelf, 0)?, None);
     assert_eq!(rt; shelf.weight(), 0);
     Ok(())
 }

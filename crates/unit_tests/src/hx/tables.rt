@@ -1,13 +1,13 @@
 //! The operator's table, through its calls. What its lines say is a matter of cases.
 
-use hx_allow::Config;
+use hx_allow::Table;
 use hx_policy::Policy;
 use std::alloc::Global;
 use std::net::{Ipv4Addr, SocketAddrV4};
 use std::test::Fail;
 
-fn config_of(alloc: Global, table: &str) -> Result<Config, Fail> {
-    Ok(Config::read(alloc, table.as_bytes()).ok().ok_or("a table")?)
+fn config_of(alloc: Global, table: &str) -> Result<Table, Fail> {
+    Ok(Table::read(alloc, table.as_bytes()).ok().ok_or("a table")?)
 }
 
 /// A line without cache, one that says that it has one, and one that says nothing.
@@ -86,11 +86,11 @@ origin = \"127.0.0.1:8082\"
 #[test]
 fn lines_that_are_never_reached_are_named(rt: HostRuntime) -> Result<(), Fail> {
     let config = config_of(rt.alloc(), SHADOWED)?;
-    assert!(rt; config.first_line_that_covers(1) == None);
-    assert!(rt; config.first_line_that_covers(2) == Some(1));
-    assert!(rt; config.first_line_that_covers(3) == None);
-    assert!(rt; config.first_line_that_covers(4) == Some(3));
-    assert!(rt; config.first_line_that_covers(5) == None);
-    assert!(rt; config.first_line_that_covers(0) == None);
+    assert!(rt; config.first_line_that_covers_line(1) == None);
+    assert!(rt; config.first_line_that_covers_line(2) == Some(1));
+    assert!(rt; config.first_line_that_covers_line(3) == None);
+    assert!(rt; config.first_line_that_covers_line(4) == Some(3));
+    assert!(rt; config.first_line_that_covers_line(5) == None);
+    assert!(rt; config.first_line_that_covers_line(0) == None);
     Ok(())
 }

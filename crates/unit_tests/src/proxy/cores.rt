@@ -1,7 +1,7 @@
 //! What the tests of cores share.
 
 use http::Method;
-use hx_allow::Config;
+use hx_allow::Table;
 use hx_fields::{Bytes, Fields};
 use hx_framing::{Request, Response};
 use hx_hop::{Asked, ask};
@@ -24,8 +24,8 @@ path = \"/\"
 origin = \"127.0.0.1:8081\"
 ";
 
-fn config(alloc: Global) -> Result<Config, Fail> {
-    Ok(Config::read(alloc, TABLE.as_bytes()).ok().ok_or("a table")?)
+fn config(alloc: Global) -> Result<Table, Fail> {
+    Ok(Table::read(alloc, TABLE.as_bytes()).ok().ok_or("a table")?)
 }
 
 pub(super) fn core(alloc: Global, first_serial: u64) -> Result<Core<ListShelf>, Fail> {

@@ -186,34 +186,34 @@ fn many_clients_come_and_go(rt: HostRuntime) -> Result<(), Fail> {
 #[test]
 fn who_is_between_requests(rt: HostRuntime) -> Result<(), Fail> {
     let mut engine = engine(rt.alloc(), 1)?;
-    assert!(&rt; !engine.is_between_requests(1));
+    assert!(&rt; !engine.is_client_between_requests(1));
     takes_happening(&rt, rt.alloc(), &mut engine, Happening::Accept(1));
-    assert!(&rt; engine.is_between_requests(1));
+    assert!(&rt; engine.is_client_between_requests(1));
     for piece in [
         b"GET /a HTTP/1.1\r\n".as_slice(),
         b"Host: h\r\n\r\n".as_slice(),
     ] {
         takes_happening(&rt, rt.alloc(), &mut engine, Happening::Client(1, piece));
-        assert!(&rt; !engine.is_between_requests(1));
+        assert!(&rt; !engine.is_client_between_requests(1));
     }
     does_act(&rt, rt.alloc(), &mut engine, 100, FORWARDED);
-    assert!(&rt; !engine.is_between_requests(1));
+    assert!(&rt; !engine.is_client_between_requests(1));
     takes_happening(&rt, rt.alloc(), &mut engine, Happening::Link(1, ANSWER));
     acts(&rt, rt.alloc(), &mut engine);
-    assert!(&rt; engine.is_between_requests(1));
+    assert!(&rt; engine.is_client_between_requests(1));
     let begun = b"POST /a HTTP/1.1\r\nHost: h\r\nContent-Length: 3\r\n\r\nab";
     takes_happening(&rt, rt.alloc(), &mut engine, Happening::Client(1, begun));
     is_idle_at(&rt, rt.alloc(), &mut engine, 100);
-    assert!(&rt; !engine.is_between_requests(1));
+    assert!(&rt; !engine.is_client_between_requests(1));
     takes_happening(&rt, rt.alloc(), &mut engine, Happening::Client(1, b"cG"));
     acts(&rt, rt.alloc(), &mut engine);
     takes_happening(&rt, rt.alloc(), &mut engine, Happening::Link(2, ANSWER));
     acts(&rt, rt.alloc(), &mut engine);
     // The first byte of a third request has come.
-    assert!(&rt; !engine.is_between_requests(1));
+    assert!(&rt; !engine.is_client_between_requests(1));
     takes_happening(&rt, rt.alloc(), &mut engine, Happening::Accept(2));
     takes_happening(&rt, rt.alloc(), &mut engine, Happening::End(2));
-    assert!(&rt; !engine.is_between_requests(2));
+    assert!(&rt; !engine.is_client_between_requests(2));
     Ok(())
 }
 

@@ -1,6 +1,6 @@
 //! The first run, as a script and its effects.
 
-use hx_allow::Config;
+use hx_allow::Table;
 use hx_store::ListShelf;
 use proxy_engine::Engine;
 use std::alloc::{AllocError, Global};
@@ -22,7 +22,7 @@ origin = \"127.0.0.1:8081\"
 
 /// An engine by the table of the first run, whose first link has this number.
 pub(super) fn engine(alloc: Global, first_link: u64) -> Result<Engine<ListShelf>, Fail> {
-    let config = Config::read(alloc, FIRST_TABLE.as_bytes())
+    let config = Table::read(alloc, FIRST_TABLE.as_bytes())
         .ok()
         .ok_or("a table")?;
     let shelf = ListShelf::new(alloc, config.capacity());

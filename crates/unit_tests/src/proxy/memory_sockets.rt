@@ -3,7 +3,7 @@ ghost use Rattle.std.specs.Prelude.{◌≡◌, length};
 ghost use Rattle.proxy_reads.specs.Received.{ReceivedBytesAreAtMostRoom};
 
 use hx_status::ReplyData;
-use proxy_turn::{End, Received, SocketFailed, Sockets};
+use proxy_turn::{End, Received, SocketCallFailed, Sockets};
 use std::alloc::Global;
 use std::net::SocketAddrV4;
 
@@ -127,11 +127,11 @@ impl Sockets for MemorySockets {
 
     ghost joined = { λ s t u a b first then. tt };
 
-    fn accept(&mut self, _n: u64) -> Result<bool, SocketFailed> {
+    fn accept(&mut self, _n: u64) -> Result<bool, SocketCallFailed> {
         self.accepts = self.accepts.saturating_add(1);
         if self.calls.fails(Call::Accept) {
             self.failures = self.failures.saturating_add(1);
-            return Err(SocketFailed);
+            return Err(SocketCallFailed);
         }
         if self.waiting == 0 {
             return Ok(false);
@@ -140,11 +140,11 @@ impl Sockets for MemorySockets {
         Ok(true)
     }
 
-    fn read(&mut self, end: End, buf: &mut [u8]) -> Result<Received, SocketFailed> {
+    fn read(&mut self, end: End, buf: &mut [u8]) -> Result<Received, SocketCallFailed> {
         self.reads = self.reads.saturating_add(1);
         if self.calls.fails(Call::Read(end)) {
             self.failures = self.failures.saturating_add(1);
-            return Err(SocketFailed);
+            return Err(SocketCallFailed);
         }
         match end {
             End::Client(n) if n > self.asked => {
@@ -165,27 +165,27 @@ impl Sockets for MemorySockets {
         end: End,
         bytes: &[u8],
         _replied: Option<&ReplyData>,
-    ) -> Result<(), SocketFailed> {
+    ) -> Result<(), SocketCallFailed> {
         if self.calls.fails(Call::Write(end)) {
             self.failures = self.failures.saturating_add(1);
-            return Err(SocketFailed);
+            return Err(SocketCallFailed);
         }
         let _ = self.written.extend_from_slice(bytes);
         Ok(())
     }
 
-    fn connect(&mut self, link: u64, _address: SocketAddrV4) -> Result<(), SocketFailed> {
+    fn connect(&mut self, link: u64, _address: SocketAddrV4) -> Result<(), SocketCallFailed> {
         if self.calls.fails(Call::Connect(link)) {
             self.failures = self.failures.saturating_add(1);
-            return Err(SocketFailed);
+            return Err(SocketCallFailed);
         }
         Ok(())
     }
 
-    fn shut(&mut self, end: End) -> Result<(), SocketFailed> {
+    fn shut(&mut self, end: End) -> Result<(), SocketCallFailed> {
         if self.calls.fails(Call::Shut(end)) {
             self.failures = self.failures.saturating_add(1);
-            return Err(SocketFailed);
+            return Err(SocketCallFailed);
         }
         Ok(())
     }

@@ -6,10 +6,10 @@ use super::first_run::{FIRST_TABLE, engine};
 use super::memory_sockets::give;
 use hx_fields::Bytes;
 use hx_status::ReplyData;
-use proxy_record::{RecordFault, Recorder, Recording};
+use proxy_record::{RecordFault, RecordedSockets, Recorder};
 use proxy_replay::replayed;
 use proxy_script::{Effect, Happening, effects_text};
-use proxy_turn::{End, Received, SocketFailed, Sockets, turn};
+use proxy_turn::{End, Received, SocketCallFailed, Sockets, turn};
 use std::alloc::{AllocError, Global};
 use std::io;
 use std::io::{ErrorKind, Write};
@@ -132,14 +132,14 @@ impl Sockets for Crowd {
 
     ghost joined = { λ s t u a b first then. tt };
 
-    fn accept(&mut self, _n: u64) -> Result<bool, SocketFailed> {
+    fn accept(&mut self, _n: u64) -> Result<bool, SocketCallFailed> {
         self.accepts = self.accepts.saturating_add(1);
         let comes = self.accepted < CLIENTS;
         self.accepted = self.accepted.saturating_add(1);
         Ok(comes)
     }
 
-    fn read(&mut self, end: End, buf: &mut [u8]) -> Result<Received, SocketFailed> {
+    fn read(&mut self, end: End, buf: &mut [u8]) -> Result<Received, SocketCallFailed> {
         self.reads = self.reads.saturating_add(1);
         let number = count(&mut self.next, &mut self.lost, end);
         match piece_of(end, number) {
@@ -153,18 +153,18 @@ impl Sockets for Crowd {
         end: End,
         bytes: &[u8],
         _replied: Option<&ReplyData>,
-    ) -> Result<(), SocketFailed> {
+    ) -> Result<(), SocketCallFailed> {
         let effect = self.effect_of(end, bytes);
         keep(&mut self.done, &mut self.lost, effect);
         Ok(())
     }
 
-    fn connect(&mut self, _link: u64, address: SocketAddrV4) -> Result<(), SocketFailed> {
+    fn connect(&mut self, _link: u64, address: SocketAddrV4) -> Result<(), SocketCallFailed> {
         self.address = Some(address);
         Ok(())
     }
 
-    fn shut(&mut self, end: End) -> Result<(), SocketFailed> {
+    fn shut(&mut self, end: End) -> Result<(), SocketCallFailed> {
         match end {
             End::Client(n) => keep(&mut self.done, &mut self.lost, Ok(Effect::Close(n))),
             End::Link(l) => keep(&mut self.done, &mut self.lost, Ok(Effect::Drop(l))),
@@ -175,7 +175,7 @@ impl Sockets for Crowd {
 }
 
 /// Serves the crowd turn by turn, a second each.
-fn serve<W: Write + Drop>(alloc: Global, ends: &mut Recording<Crowd, W>) -> Result<(), Fail> {
+fn serve<W: Write + Drop>(alloc: Global, ends: &mut RecordedSockets<Crowd, W>) -> Result<(), Fail> {
     let mut engine = engine(alloc, 1)?;
     let mut settled = true;
     for now in 100..300u64 {
@@ -195,7 +195,7 @@ fn a_record_replays_what_was_done(rt: HostRuntime) -> Result<(), Fail> {
     let record = Recorder::begin(alloc, &mut script, FIRST_TABLE.as_bytes())
         .ok()
         .ok_or("a record")?;
-    let mut ends = Recording::new(Crowd::new(alloc), Some(record));
+    let mut ends = RecordedSockets::new(Crowd::new(alloc), Some(record));
     serve(alloc, &mut ends)?;
     let crowd = ends.into_sockets();
     assert!(rt; !crowd.lost);
@@ -244,7 +244,7 @@ fn nothing_is_done_that_is_not_recorded(rt: HostRuntime) -> Result<(), Fail> {
         let record = Recorder::begin(alloc, sink, FIRST_TABLE.as_bytes())
             .ok()
             .ok_or("a record")?;
-        let mut ends = Recording::new(Crowd::new(alloc), Some(record));
+        let mut ends = RecordedSockets::new(Crowd::new(alloc), Some(record));
         serve(alloc, &mut ends)?;
         assert!(rt; ends.fault() == Some(RecordFault::Write));
         let crowd = ends.into_sockets();

@@ -6,8 +6,8 @@ use super::memory_sockets::{Call, MemorySockets};
 use hx_store::ListShelf;
 use proxy_engine::Engine;
 use proxy_turn::{
-    End, LoggedCall, LoggedReadOutcome, LoggedSockets, PIECE, Sockets, TurnBounds, TurnFault, turn,
-    turn_over_ends, turn_with_call_log,
+    End, LoggedCall, LoggedReadOutcome, LoggedSockets, PIECE, Sockets, TurnAcceptBounds, TurnFault,
+    turn, turn_over_given_ends, turn_with_call_log,
 };
 use std::alloc::Global;
 use std::net::{Ipv4Addr, SocketAddrV4};
@@ -145,7 +145,7 @@ fn calls_are_logged(rt: HostRuntime) -> Result<(), Fail> {
     below.waiting = 1;
     let mut sockets = LoggedSockets::new(below, alloc);
     assert!(rt; turn_with_call_log(&mut engine, &mut sockets, alloc, 100).is_ok());
-    assert!(rt; !sockets.has_lost());
+    assert!(rt; !sockets.has_unlogged_calls());
     match sockets.calls() {
         [
             LoggedCall::Accept(1, Ok(true)),
@@ -171,12 +171,12 @@ fn expect_turn(
     ends: &mut Vec<End>,
     accepted: u64,
 ) {
-    let bounds = TurnBounds {
+    let bounds = TurnAcceptBounds {
         most_open: 3,
         most_accepts: 2,
     };
     let mut buf = [0u8; PIECE];
-    match turn_over_ends(engine, sockets, alloc, 100, bounds, ends, &mut buf) {
+    match turn_over_given_ends(engine, sockets, alloc, 100, bounds, ends, &mut buf) {
         Ok(report) => {
             assert!(rt; report.accepted == accepted && report.reads == 2 && report.faults == 0);
         }

@@ -3,13 +3,18 @@
 
 use super::files::{GIVEN, NEXT, entry, file, filled, put, read};
 use hx_store::ListShelf;
-use proxy_store_file::{EntryPart, StoreFault, WriteFault, write_store};
+use proxy_store_file::{EntryPart, StoreReadFault, WriteFault, write_and_empty_store};
 use std::alloc::Global;
 use std::process::Abort;
 use std::test::Fail;
 
 /// The file is refused so, and the shelf is empty.
-fn is_refused(rt: &impl Abort, alloc: Global, text: &[u8], fault: StoreFault) -> Result<(), Fail> {
+fn is_refused(
+    rt: &impl Abort,
+    alloc: Global,
+    text: &[u8],
+    fault: StoreReadFault,
+) -> Result<(), Fail> {
     let (result, held) = read(alloc, text, 9, None)?;
     assert_eq!(rt; result, Err(fault));
     assert_eq!(rt; held, 0);
@@ -35,7 +40,7 @@ fn a_file_that_was_cut_is_short(rt: HostRuntime) -> Result<(), Fail> {
     let second = text.len().saturating_sub(8);
     for at in 0..text.len() {
         let entries = whole_entries(at, first, second);
-        is_refused(&rt, alloc, &text[..at], StoreFault::Short(entries))?;
+        is_refused(&rt, alloc, &text[..at], StoreReadFault::Short(entries))?;
     }
     assert_eq!(rt; read(alloc, text.as_slice(), 9, None)?, (Ok(NEXT), 2));
     Ok(())
@@ -78,41 +83,41 @@ fn changed(alloc: Global, at: usize, bytes: &[u8]) -> Result<Vec<u8>, Fail> {
 fn the_earliest_fault_is_named(rt: HostRuntime) -> Result<(), Fail> {
     let alloc = rt.alloc();
     let refused = [
-        (0, &b"R"[..], StoreFault::NotAStore),
-        (15, b"2", StoreFault::Version),
+        (0, &b"R"[..], StoreReadFault::NotAStore),
+        (15, b"2", StoreReadFault::Version),
         // The next serial is 9, which is that of the second entry.
-        (17, &[0, 0, 0, 0, 0, 0, 0, 9], StoreFault::Serial(2)),
+        (17, &[0, 0, 0, 0, 0, 0, 0, 9], StoreReadFault::Serial(2)),
         // Ten entries follow.
-        (25, &[0, 0, 0, 0, 0, 0, 0, 10], StoreFault::Entries),
+        (25, &[0, 0, 0, 0, 0, 0, 0, 10], StoreReadFault::Entries),
         // The first head is longer than may be, or than the file.
         (
             33,
             &[0, 0, 0, 0, 0, 8, 0, 1],
-            StoreFault::Entry(1, EntryPart::Head),
+            StoreReadFault::Entry(1, EntryPart::Head),
         ),
-        (33, &[0, 0, 0, 0, 0, 8, 0, 0], StoreFault::Short(0)),
+        (33, &[0, 0, 0, 0, 0, 8, 0, 0], StoreReadFault::Short(0)),
         // Its serial is 10, its status 1000.
-        (41, &[0, 0, 0, 0, 0, 0, 0, 10], StoreFault::Serial(1)),
+        (41, &[0, 0, 0, 0, 0, 0, 0, 10], StoreReadFault::Serial(1)),
         (
             49,
             &[0, 0, 0, 0, 0, 0, 3, 232],
-            StoreFault::Entry(1, EntryPart::Status),
+            StoreReadFault::Entry(1, EntryPart::Status),
         ),
         (
             49,
             &[0, 0, 0, 0, 0, 1, 0, 200],
-            StoreFault::Entry(1, EntryPart::Head),
+            StoreReadFault::Entry(1, EntryPart::Head),
         ),
         // Its date has five digits of a year, its port is 0.
         (
             65,
             &[0, 0, 0, 59, 0, 0, 0, 0],
-            StoreFault::Entry(1, EntryPart::Times),
+            StoreReadFault::Entry(1, EntryPart::Times),
         ),
         (
             97,
             &[0, 0, 0, 0, 0, 0, 0, 0],
-            StoreFault::Entry(1, EntryPart::Key),
+            StoreReadFault::Entry(1, EntryPart::Key),
         ),
     ];
     for (at, bytes, fault) in refused {
@@ -120,7 +125,7 @@ fn the_earliest_fault_is_named(rt: HostRuntime) -> Result<(), Fail> {
     }
     let mut longer = file(alloc, &GIVEN)?;
     longer.push(0)?;
-    is_refused(&rt, alloc, longer.as_slice(), StoreFault::Long)
+    is_refused(&rt, alloc, longer.as_slice(), StoreReadFault::Long)
 }
 
 /// The file of two entries, of which the second was purged, and where the moment of that stands in it: in front of a
@@ -143,7 +148,7 @@ fn a_purge_that_cant_have_been_is_refused(rt: HostRuntime) -> Result<(), Fail> {
         &rt,
         alloc,
         text.as_slice(),
-        StoreFault::Entry(2, EntryPart::Times),
+        StoreReadFault::Entry(2, EntryPart::Times),
     )?;
     // Behind the lines of the first stands one byte.
     let mut longer = file(alloc, &GIVEN[..2])?;
@@ -153,7 +158,7 @@ fn a_purge_that_cant_have_been_is_refused(rt: HostRuntime) -> Result<(), Fail> {
         &rt,
         alloc,
         longer.as_slice(),
-        StoreFault::Entry(1, EntryPart::Head),
+        StoreReadFault::Entry(1, EntryPart::Head),
     )
 }
 
@@ -172,16 +177,16 @@ fn a_store_above_a_bound_is_refused(rt: HostRuntime) -> Result<(), Fail> {
         (
             3,
             Some(all.saturating_sub(1)),
-            (Err(StoreFault::Weight(3)), 0),
+            (Err(StoreReadFault::Weight(3)), 0),
         ),
         (
             3,
             Some(two.saturating_sub(1)),
-            (Err(StoreFault::Weight(2)), 0),
+            (Err(StoreReadFault::Weight(2)), 0),
         ),
-        (3, Some(0), (Err(StoreFault::Weight(1)), 0)),
-        (2, Some(all), (Err(StoreFault::Entries), 0)),
-        (0, None, (Err(StoreFault::Entries), 0)),
+        (3, Some(0), (Err(StoreReadFault::Weight(1)), 0)),
+        (2, Some(all), (Err(StoreReadFault::Entries), 0)),
+        (0, None, (Err(StoreReadFault::Entries), 0)),
     ];
     for (capacity, most, wanted) in bounds {
         assert_eq!(rt; read(alloc, text.as_slice(), capacity, most)?, wanted);
@@ -197,7 +202,7 @@ fn written(alloc: Global, status: u16, next: u64) -> Result<(Result<(), WriteFau
     second.status = status;
     put(&mut shelf, second)?;
     let mut text = Vec::new(alloc);
-    let result = write_store(alloc, next, &mut shelf, &mut text);
+    let result = write_and_empty_store(alloc, next, &mut shelf, &mut text);
     Ok((result, text.len()))
 }
 

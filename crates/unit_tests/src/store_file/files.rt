@@ -6,7 +6,7 @@ use hx_fields::{Bytes, Fields};
 use hx_store::{Entry, IndexedShelf, ListShelf, Shelf};
 use hx_target::Key;
 use hx_vary::{Nominated, Nomination};
-use proxy_store_file::{StoreFault, read_store, write_store};
+use proxy_store_file::{StoreReadFault, read_store, write_and_empty_store};
 use std::alloc::{AllocError, Global};
 use std::process::Abort;
 use std::test::Fail;
@@ -137,7 +137,7 @@ pub(super) fn file(alloc: Global, given: &[Given]) -> Result<Vec<u8>, Fail> {
     let mut shelf = ListShelf::new(alloc, 9);
     filled(alloc, &mut shelf, given)?;
     let mut text = Vec::new(alloc);
-    match write_store(alloc, NEXT, &mut shelf, &mut text) {
+    match write_and_empty_store(alloc, NEXT, &mut shelf, &mut text) {
         Ok(()) => Ok(text),
         Err(_) => Err("a store that is written".into()),
     }
@@ -149,7 +149,7 @@ pub(super) fn read(
     text: &[u8],
     capacity: usize,
     most: Option<u64>,
-) -> Result<(Result<u64, StoreFault>, usize), Fail> {
+) -> Result<(Result<u64, StoreReadFault>, usize), Fail> {
     if let Some(most) = most {
         if most == u64::MAX {
             return Err("a bound of these stores".into());
@@ -198,7 +198,11 @@ fn holds<S: Shelf>(rt: &impl Abort, alloc: Global, shelf: &S, given: &Given) -> 
 /// Takes the entries out, the least recently used first, and compares their serials.
 fn goes_in_order<S: Shelf>(rt: &impl Abort, shelf: &mut S, serials: &[u64]) {
     for serial in serials {
-        assert!(rt; shelf.shed(0).is_some_and(|entry| entry.serial == *serial));
+        assert!(rt;
+            shelf
+                .evict_last_beyond_weight(0)
+                .is_some_and(|entry| entry.serial == *serial)
+        );
     }
     assert_eq!(rt; shelf.len(), 0);
 }
@@ -213,7 +217,7 @@ fn comes_back<S: Shelf>(
     filled(alloc, old, &GIVEN)?;
     assert!(rt; old.promote(4));
     let mut text = Vec::new(alloc);
-    assert_eq!(rt; write_store(alloc, NEXT, old, &mut text), Ok(()));
+    assert_eq!(rt; write_and_empty_store(alloc, NEXT, old, &mut text), Ok(()));
     assert_eq!(rt; old.len(), 0);
     if new.len() > 0 {
         return Err("an empty shelf".into());

@@ -3,7 +3,7 @@
 use super::files::{GIVEN, NEXT, file, filled};
 use crate::failing_streams::{Sink, Source};
 use hx_store::{IndexedShelf, Shelf};
-use proxy_store_file::{StoreFault, WriteFault, read_store, write_store};
+use proxy_store_file::{StoreReadFault, WriteFault, read_store, write_and_empty_store};
 use std::alloc::Global;
 use std::io::ErrorKind;
 use std::test::Fail;
@@ -13,7 +13,7 @@ fn read_from(
     alloc: Global,
     text: &[u8],
     (most, calls, kind): (usize, u64, ErrorKind),
-) -> Result<(Result<u64, StoreFault>, usize, u64), Fail> {
+) -> Result<(Result<u64, StoreReadFault>, usize, u64), Fail> {
     let mut source = Source {
         bytes: text,
         most,
@@ -45,7 +45,7 @@ fn a_reader_fails_at_each_of_its_calls(rt: HostRuntime) -> Result<(), Fail> {
                 text.as_slice(),
                 (most, calls, ErrorKind::Other),
             )?;
-            assert_eq!(rt; (result, held), (Err(StoreFault::Read), 0));
+            assert_eq!(rt; (result, held), (Err(StoreReadFault::Read), 0));
             let (result, held, _) = read_from(
                 alloc,
                 text.as_slice(),
@@ -70,7 +70,7 @@ fn written_to(
         calls,
         kind,
     };
-    let result = write_store(alloc, NEXT, &mut shelf, &mut sink);
+    let result = write_and_empty_store(alloc, NEXT, &mut shelf, &mut sink);
     Ok((result, sink.text, sink.calls))
 }
 

@@ -1,5 +1,5 @@
 use Rattle.std.proofs.Common.{rules, ◌≡◌, ◌++◌, ◌∷◌, []}
-use Rattle.hx_allow.specs.Index.{line_numbers_for}
+use Rattle.hx_allow.specs.Index.{line_numbers_for_host}
 use Rattle.hx_allow.proofs.HostIndices.{entered}
 use Rattle.hx_allow.proofs.host_index.enter.Goals as goal
 use Rattle.hx_allow.proofs.host_index.enter.Goals.{in-Some, in-None}
@@ -7,7 +7,7 @@ use Rattle.hx_allow.proofs.host_index.enter.Goals.{in-Some, in-None}
 pub returns : goal.returns
 returns c =
     let is_key : c.in_ok-from_slice.field-0.items ≡ c.args.host.now = search rules in
-    let are : c.push.new.self.items ≡ line_numbers_for c.args.kept.now c.args.host.now ++ c.args.number ∷ [] = elim c.match-remove.branch [
+    let are : c.push.new.self.items ≡ line_numbers_for_host c.args.kept.now c.args.host.now ++ c.args.number ∷ [] = elim c.match-remove.branch [
       | in-Some w ↦ search rules
       | in-None w ↦ search rules
     ] in

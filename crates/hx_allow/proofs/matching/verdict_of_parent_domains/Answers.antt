@@ -10,8 +10,8 @@ loop-place-init c =
 
 pub loop-place-preserved : goal.loop-place-preserved
 loop-place-preserved c = elim c.if-host-place-eq46.branch [
-  | then-host-place-eq46 w ↦ looked_at_dot c.args.lines.now c.args.index.now.below c.args.host.now c.loop-place.place c.args.method.now c.args.path.now w.for_hosts_below-numbers.result.now c.loop-place.found c.if-host-place-eq46.found c.args.found
-      c.loop-place-test.true w.if-host-place-eq46.true w.for_hosts_below-numbers.ensures (w.found-is ∙ w.verdict_by_line_numbers-found.ensures) c.loop-place.invariant
+  | then-host-place-eq46 w ↦ looked_at_dot c.args.lines.now c.args.index.now.below c.args.host.now c.loop-place.place c.args.method.now c.args.path.now w.lines_for_hosts_below-numbers.result.now c.loop-place.found c.if-host-place-eq46.found c.args.found
+      c.loop-place-test.true w.if-host-place-eq46.true w.lines_for_hosts_below-numbers.ensures (w.found-is ∙ w.verdict_by_line_numbers-found.ensures) c.loop-place.invariant
   | else-host-place-eq46 w ↦ passed_byte c.args.lines.now c.args.index.now.below c.args.host.now c.loop-place.place c.args.method.now c.args.path.now c.loop-place.found c.if-host-place-eq46.found c.args.found
       c.loop-place-test.true w.if-host-place-eq46.false w.found-is c.loop-place.invariant
 ]

@@ -1,7 +1,7 @@
 use Rattle.std.proofs.Common.{rules, ◌≡◌, ◌≤◌, ◌<◌, ◌+◌, length, get_or, arith, ap, sym, ◌∙◌}
 use Rattle.hx_allow.specs.Via.{number_of_enclosing_comments}
 use Rattle.hx_allow.proofs.ViaPieces.{naming, none_in_front, comments_grow, times_at_comma, times_elsewhere, times_at_end}
-use Rattle.hx_allow.specs.declared.via.ViaPlace.TheVariants.{Outside}
+use Rattle.hx_allow.specs.declared.via.ViaLineParseState.TheVariants.{Outside}
 use Rattle.hx_allow.proofs.via.times_in_via_line.Goals as goal
 use Rattle.hx_allow.proofs.via.times_in_via_line.Goals.{then-is_list_comma_at, else-is_list_comma_at}
 

@@ -1,7 +1,7 @@
 use Rattle.std.proofs.Common.{rules, ◌≡◌, ◌<◌, length, get_or, true, false, ◌+◌, List, ℕ, drop, subst, sym, codes}
 use Rattle.hx_fields.specs.FieldLines.{members_of}
 use Rattle.hx_fields.specs.Names.{is_same_name, members_of_value}
-use Rattle.hx_hop.specs.NamedLines.{members_have_folded_name, names_in_connection, NamesAreMarkedBy, PrefilterPassesUnmarkedNames}
+use Rattle.hx_hop.specs.NamedLines.{members_have_folded_name, connection_has_folded_option, NamesThatPassAreMarked, PrefilterPassesUnmarkedNames}
 use Rattle.hx_hop.specs.declared.named_lines.NamePrefilter.{NamePrefilter}
 use Rattle.hx_hop.proofs.NamedLemmas.{line_marks, members_here, no_members_here, Marked, MarksOn}
 use Rattle.hx_hop.proofs.named_lines.mark_members.Goals as goal
@@ -16,7 +16,7 @@ loop-line-preserved c =
     let signs = c.if-is_same_name.signs in
     let i = c.loop-line.line-index in
     let line = c.line-item.result in
-    let all = names_in_connection fields in
+    let all = connection_has_folded_option fields in
     let rest : List (List ℕ) = members_of (drop (i + 1) fields) (codes "Connection") in
     let here : line ≡ get_or fields i line = search rules in
     let at : i < length fields = search rules in
@@ -24,8 +24,8 @@ loop-line-preserved c =
       | then-is_same_name+in_ok-mark_value w ↦ (
           let named : is_same_name line.name (codes "Connection") ≡ true = search rules in
           let value : w.value.result.now ≡ line.value = search rules in
-          let marked : NamesAreMarkedBy (members_have_folded_name (members_of_value line.value)) old w.mark_value.new.names =
-          subst (λ v. NamesAreMarkedBy (members_have_folded_name (members_of_value v)) old w.mark_value.new.names) value w.in_ok-mark_value.ensures.marked in
+          let marked : NamesThatPassAreMarked (members_have_folded_name (members_of_value line.value)) old w.mark_value.new.names =
+          subst (λ v. NamesThatPassAreMarked (members_have_folded_name (members_of_value v)) old w.mark_value.new.names) value w.in_ok-mark_value.ensures.marked in
           subst (λ (n : Marked). MarksOn (members_have_folded_name rest) n all start) (sym w.names-is)
           (line_marks (members_of_value line.value) rest all start old w.mark_value.new.names marked
           (subst (λ ms. MarksOn (members_have_folded_name ms) old all start) (members_here fields i line here at named) c.loop-line.invariant.marks))

@@ -1,6 +1,6 @@
 use Rattle.std.proofs.Common.{rules, ◌∙◌, ap}
 use Rattle.std.specs.BTreeMap.{get}
-use Rattle.hx_fields.specs.Folded.{folded_cmp}
+use Rattle.hx_fields.specs.Folded.{folded_names_cmp}
 use Rattle.hx_hop.specs.NamedLines.{is_present_and_marked}
 use Rattle.hx_hop.proofs.NamedLemmas.{keeps_stripped, tells_close}
 use Rattle.hx_hop.proofs.Passed.{unmarked_show}
@@ -18,6 +18,6 @@ returns c =
     record {
       lines = c.in_ok-keep_unmarked.ensures ∙ keeps_stripped fields start names c.in_ok-names.ensures.names c.in_ok-mark_members.ensures;
       closes = c.is_present_and_marked-closes.ensures
-          ∙ ap (λ q. is_present_and_marked (get folded_cmp names q)) (search rules)
+          ∙ ap (λ q. is_present_and_marked (get folded_names_cmp names q)) (search rules)
           ∙ tells_close fields start names c.in_ok-names.ensures.names c.in_ok-mark_members.ensures;
     }

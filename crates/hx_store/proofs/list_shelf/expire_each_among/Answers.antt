@@ -1,7 +1,7 @@
 use Rattle.std.proofs.Common.{◌≡◌, ℕ, ◌+◌, suc, List, ◌++◌, length, take, drop, ap, sym, ◌∙◌, set, get_or, arith}
 use Rattle.std.proofs.lemmas.List.{append-nil, drop_all, take_all}
 use Rattle.hx_store.specs.Stored.{Stored}
-use Rattle.hx_store.specs.Shelf.{expired_entry, entries_with_expired}
+use Rattle.hx_store.specs.Shelf.{expired_entry, entries_with_serials_expired}
 use Rattle.hx_store.proofs.ExpiredEntries.{front-expired, front-expired-all, front-expired-next, length-expired}
 use Rattle.hx_store.proofs.list_shelf.expire_each_among.Goals as goal
 
@@ -23,9 +23,9 @@ pub returns-clause-items : goal.returns-clause-items
 returns-clause-items c =
     let es = c.args.entries.now.items in
     let end : c.loop-entry.entry-index ≡ length c.deref_mut-entry-items.result.now = omega arith in
-    let all : c.loop-entry.entry-items ≡ entries_with_expired c.args.serials.now c.args.now es =
+    let all : c.loop-entry.entry-items ≡ entries_with_serials_expired c.args.serials.now c.args.now es =
     c.loop-entry.invariant
     ∙ ap (λ n. front-expired c.args.serials.now c.args.now n c.deref_mut-entry-items.result.now) end
     ∙ front-expired-all c.args.serials.now c.args.now c.deref_mut-entry-items.result.now
-    ∙ ap (entries_with_expired c.args.serials.now c.args.now) c.deref_mut-entry-items.ensures.value in
-    rw all (fits c.args.entries.now.len (entries_with_expired c.args.serials.now c.args.now es) es (sym c.deref_mut-entry-items.ensures.len ∙ ap length c.deref_mut-entry-items.ensures.value) (length-expired c.args.serials.now c.args.now es))
+    ∙ ap (entries_with_serials_expired c.args.serials.now c.args.now) c.deref_mut-entry-items.ensures.value in
+    rw all (fits c.args.entries.now.len (entries_with_serials_expired c.args.serials.now c.args.now es) es (sym c.deref_mut-entry-items.ensures.len ∙ ap length c.deref_mut-entry-items.ensures.value) (length-expired c.args.serials.now c.args.now es))

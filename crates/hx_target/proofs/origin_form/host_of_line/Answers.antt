@@ -11,4 +11,4 @@ returns-else-has_uppercase_letter c =
     let front : host ≡ take (length host) c.args.line.now.value =
     subst (λ (v : List ℕ). host ≡ take (length host) v) c.value.ensures c.host_part-host.ensures.front in
     let stays = host_stays host (sym c.has_uppercase_letter.ensures ∙ c.if-has_uppercase_letter.false) in
-    subst (λ (text : List ℕ). IfOk c.value_part.result (λ lower. lower ≡ text)) (sym front ∙ sym stays ∙ ap lowercase is) c.value_part.ensures
+    subst (λ (text : List ℕ). IfOk c.first_bytes_of_value.result (λ lower. lower ≡ text)) (sym front ∙ sym stays ∙ ap lowercase is) c.first_bytes_of_value.ensures

@@ -5,7 +5,7 @@ use Rattle.std.specs.BTreeMap.{is_at}
 use Rattle.std.specs.BTreeSet.{contains}
 use Rattle.std.proofs.lemmas.List.{take_all, take_more}
 use Rattle.std.proofs.lemmas.List.Folds.{list_any-append}
-use Rattle.hx_fields.specs.Folded.{folded, folded_cmp, folded_cmp_ties_are_equal}
+use Rattle.hx_fields.specs.Folded.{folded, folded_names_cmp, folded_cmp_ties_are_equal}
 use Rattle.hx_fields.specs.Line.{Field}
 use Rattle.hx_validate.proofs.freshening.line_names.Goals as goal
 
@@ -24,7 +24,7 @@ loop-line-preserved c = λ q.
     let next : take (c.loop-line.line-index + 1) lines ≡ done ++ line ∷ [] = search (rules, take_more) in
     let key : c.in_ok-of.field-0 ≡ folded line.name = search rules in
     c.in_ok-insert.ensures.updates.0 q
-    ∙ ap (λ b. cond b true (contains folded_cmp c.loop-line.names q)) (ap (λ k. is_at (folded_cmp k) q) key ∙ sym (folded_cmp_ties_are_equal (folded line.name) q))
+    ∙ ap (λ b. cond b true (contains folded_names_cmp c.loop-line.names q)) (ap (λ k. is_at (folded_names_cmp k) q) key ∙ sym (folded_cmp_ties_are_equal (folded line.name) q))
     ∙ ap (λ s. cond (bytes_eq (folded line.name) q) true s) (c.loop-line.invariant q)
     ∙ one_more (list_any named done) (bytes_eq (folded line.name) q)
     ∙ sym (list_any-append named done (line ∷ []))

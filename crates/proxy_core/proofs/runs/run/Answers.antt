@@ -2,7 +2,7 @@ use Rattle.std.proofs.Common.{rules, arith, ◌≡◌, ◌<◌, ◌+◌, ◌++�
 use Rattle.hx_allow.specs.TableLines.{Table}
 use Rattle.proxy_core.specs.declared.event.Event.{Event}
 use Rattle.proxy_core.specs.declared.outcome.Outcome.{Outcome}
-use Rattle.proxy_core.specs.Traces.{trace_of_events, initial_state, state_after_trace, IsGood}
+use Rattle.proxy_core.specs.Traces.{trace_of_events, initial_state, state_after_trace, TraceIsGood}
 use Rattle.proxy_core.specs.Histories.{IsGoodHistory}
 use Rattle.proxy_core.specs.Headline.{Headline}
 use Rattle.proxy_core.proofs.Tracing.{left-push, good-push, at_index, stops_at, refuses_or, same_good}
@@ -13,8 +13,8 @@ use Rattle.proxy_core.specs.Starts.{StoreAtStart, empty_store}
 
 -- the trace so far is good over the bounded list, also where its outcomes are the same ones after room was found
 module _ (table : Table) (start : StoreAtStart) (first : ℕ) (events : List Event) (outcomes more : List Outcome) (same : more ≡ outcomes)
-    (g : IsGood (initial_state table start first) (trace_of_events events outcomes)) where
-  plain : IsGood (initial_state table start first) (trace_of_events events more)
+    (g : TraceIsGood (initial_state table start first) (trace_of_events events outcomes)) where
+  plain : TraceIsGood (initial_state table start first) (trace_of_events events more)
   plain = same_good (initial_state table start first) events outcomes more same g
 
   good : IsGoodHistory table start first (trace_of_events events more)
@@ -79,5 +79,5 @@ loop-event-preserved g c =
     record {
       long = ap length p ∙ (length-append os (c.in-Ok.outcome ∷ []) ∙ ap (λ m. m + 1) i.long);
       applies = left-push begun es os c.event-item.result c.in-Ok.outcome c.loop-event.core _ at i.applies k ∙ ap (λ (zs : List Outcome). state_after_trace begun (trace_of_events es zs)) (sym p);
-      good = subst (λ (zs : List Outcome). IsGood begun (trace_of_events es zs)) (sym p) (good-push begun es os c.event-item.result c.in-Ok.outcome c.loop-event.core _ at i.applies k i.good);
+      good = subst (λ (zs : List Outcome). TraceIsGood begun (trace_of_events es zs)) (sym p) (good-push begun es os c.event-item.result c.in-Ok.outcome c.loop-event.core _ at i.applies k i.good);
     }

@@ -1,6 +1,6 @@
 use Rattle.std.proofs.Common.{◌≡◌, true, false, ℕ, length, get_or, Option, Some, None, sym, ap, subst, ◌∙◌}
 use Rattle.proxy_engine.specs.Pairing.{activity_of_connection}
-use Rattle.proxy_engine.specs.Room.{ConnectionReaderHasSpareBytes}
+use Rattle.proxy_engine.specs.Room.{ConnectionReaderHasRoomFor}
 use Rattle.proxy_engine.specs.EngineModel.{connection_after_bytes}
 use Rattle.proxy_engine.specs.State.{ConnectionRepresents}
 use Rattle.proxy_engine.specs.declared.endpoints.ends.Connection.{Connection}
@@ -35,6 +35,6 @@ returns-in-Err-clause-kept c = λ e s links core first h. connection_keeps c.arg
 
 pub returns-in-Err-clause-reserved : goal.returns-in-Err-clause-reserved
 returns-in-Err-clause-reserved c = λ roomy.
-    let here = subst (λ (o : Option Connection). ConnectionReaderHasSpareBytes o (length c.args.bytes.now)) (ap (λ (i : ℕ). get_or c.args.connections.now.items i None) (sym c.in-Some.ensures.1) ∙ sym c.in-Some-at_mut.ensures.value) roomy in
+    let here = subst (λ (o : Option Connection). ConnectionReaderHasRoomFor o (length c.args.bytes.now)) (ap (λ (i : ℕ). get_or c.args.connections.now.items i None) (sym c.in-Some.ensures.1) ∙ sym c.in-Some-at_mut.ensures.value) roomy in
     let none : false ≡ true = c.in-Err.ensures.reserved here in
     absurd cc

@@ -1,6 +1,6 @@
 use Rattle.std.proofs.Common.{◌≡◌, true, false, ℕ, length, get_or, Option, Some, None, sym, ap, subst, ◌∙◌}
 use Rattle.proxy_engine.specs.Pairing.{owner_of_open_link}
-use Rattle.proxy_engine.specs.Room.{LinkReaderHasSpareBytes}
+use Rattle.proxy_engine.specs.Room.{LinkReaderHasRoomFor}
 use Rattle.proxy_engine.specs.EngineModel.{link_after_bytes}
 use Rattle.proxy_engine.specs.State.{LinkRepresents}
 use Rattle.proxy_engine.specs.declared.endpoints.ends.Link.{Link}
@@ -35,6 +35,6 @@ returns-in-Err-clause-kept c = λ e s connections core h. link_keeps connections
 
 pub returns-in-Err-clause-reserved : goal.returns-in-Err-clause-reserved
 returns-in-Err-clause-reserved c = λ roomy.
-    let here = subst (λ (o : Option Link). LinkReaderHasSpareBytes o (length c.args.bytes.now)) (ap (λ (j : ℕ). get_or c.args.links.now.items j None) (sym c.in-Some.ensures.1) ∙ sym c.in-Some-at_mut.ensures.value) roomy in
+    let here = subst (λ (o : Option Link). LinkReaderHasRoomFor o (length c.args.bytes.now)) (ap (λ (j : ℕ). get_or c.args.links.now.items j None) (sym c.in-Some.ensures.1) ∙ sym c.in-Some-at_mut.ensures.value) roomy in
     let none : false ≡ true = c.in-Err.ensures.reserved here in
     absurd cc

@@ -3,6 +3,6 @@ use Rattle.proxy_record_laws.proofs.record_laws.a_record_is_played_as_far_as_its
 
 pub returns : goal.returns
 returns c = record {
-  turn = turns_play_on c.one_act_is_due_first.ensures c.a_turn_does_its_acts_in_order.ensures.rounds c.turns_execute_their_steps.ensures.over_reports;
+  turn = turns_play_on c.one_act_is_due_first.ensures c.a_turn_without_failure_does_acts_in_order.ensures.rounds c.turns_execute_their_steps.ensures.over_reports;
   loss = losses_play_on c.one_act_is_due_first.ensures;
 }

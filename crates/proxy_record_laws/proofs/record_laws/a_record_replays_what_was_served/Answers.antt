@@ -12,6 +12,6 @@ returns c =
     let scripts = c.a_record_is_a_script.ensures.records in
     let spelled = c.a_record_is_a_script.ensures.spelled in
     record {
-      whole = record_replays recorded due c.a_turn_does_its_acts_in_order.ensures.rounds emit goes_on one_table again scripts spelled;
-      ended = ended_record_replays recorded due c.a_turn_does_its_acts_in_order.ensures.rounds emit goes_on one_table again scripts spelled;
+      whole = record_replays recorded due c.a_turn_without_failure_does_acts_in_order.ensures.rounds emit goes_on one_table again scripts spelled;
+      ended = ended_record_replays recorded due c.a_turn_without_failure_does_acts_in_order.ensures.rounds emit goes_on one_table again scripts spelled;
     }

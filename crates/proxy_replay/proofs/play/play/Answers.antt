@@ -1,5 +1,5 @@
 use Rattle.std.proofs.Common.{◌+◌, ◌<◌, false, true, sym, subst, arith}
-use Rattle.hx_fields.specs.declared.limits.TheConstants.{END_OF_TIME}
+use Rattle.hx_fields.specs.declared.limits.TheConstants.{START_OF_YEAR_10000}
 use Rattle.proxy_script.specs.Script.{model_of_item, Table}
 use Rattle.proxy_script.proofs.ItemLaws.{item_found}
 use Rattle.proxy_replay.specs.Played.{happening_of_item}
@@ -18,7 +18,7 @@ items-init g c = record {
 pub play_item-requires : goal.play_item-requires
 play_item-requires g c =
     let represents = item_found false c.items.rest.now c.in-Found.more.now (model_of_item c.in-Found.item) (sym c.in-Found.ensures) in
-    subst (λ m. m < END_OF_TIME) (sym c.moment_after_item-now.ensures) (moment_fits c.items.now (model_of_item c.in-Found.item) c.items.invariant.moments represents.1)
+    subst (λ m. m < START_OF_YEAR_10000) (sym c.moment_after_item-now.ensures) (moment_fits c.items.now (model_of_item c.in-Found.item) c.items.invariant.moments represents.1)
 
 pub returns-in-Err-play_item : goal.returns-in-Err-play_item
 returns-in-Err-play_item g c =
@@ -42,7 +42,7 @@ items-preserved g c =
           (subst (λ m. ItemWasPlayedAndWritten before.last.model m (happening_of_item (model_of_item c.in-Found.item)) c.play_item.new.engine (g.W.Write.contents c.items.writer) (g.W.Write.contents c.play_item.new.writer)) c.moment_after_item-now.ensures
           (c.in-Ok-play_item.ensures.ok before.last.model before.represents)));
       lines = omega (arith, c.items.invariant.lines, item_shorter false c.items.rest.now c.in-Found.more.now (model_of_item c.in-Found.item) represents);
-      moments = subst (λ m. m < END_OF_TIME) (sym c.moment_after_item-now.ensures) (moment_fits c.items.now (model_of_item c.in-Found.item) c.items.invariant.moments represents.1);
+      moments = subst (λ m. m < START_OF_YEAR_10000) (sym c.moment_after_item-now.ensures) (moment_fits c.items.now (model_of_item c.in-Found.item) c.items.invariant.moments represents.1);
     }
 
 pub returns-in-Wrong : goal.returns-in-Wrong

@@ -8,7 +8,7 @@ pub returns-in-Ok-clause-ok : goal.returns-in-Ok-clause-ok
 returns-in-Ok-clause-ok c = opens_by c.args.bytes.now c.in-Found.rest.now c.in-Some.table.now _ _ c.in-Found.ensures c.in-Some.ensures (c.in-Ok.ensures.table (λ e. cc))
 
 pub returns-in-Err-clause-fault : goal.returns-in-Err-clause-fault
-returns-in-Err-clause-fault c = subst (TableIsNotRead c.args.bytes.now c.args.ended) (sym c.replay_fault_of_config_fault.ensures)
+returns-in-Err-clause-fault c = subst (TableIsNotRead c.args.bytes.now c.args.ended) (sym c.replay_fault_of_table_fault.ensures)
     (refused_by c.args.bytes.now c.in-Found.rest.now c.in-Some.table.now c.args.ended _ c.in-Err.fault c.in-Found.ensures c.in-Some.ensures c.in-Err.ensures.table)
 
 pub returns-in-None-clause-fault : goal.returns-in-None-clause-fault

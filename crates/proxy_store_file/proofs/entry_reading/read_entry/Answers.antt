@@ -37,11 +37,11 @@ returns-in-Err-read_bytes-2-clause-stop g c =
     (head_given _ _ _ _ _ _ c.in-Ok.n c.in-Ok-read_bytes.text.items c.in-Ok.ensures.ok fits c.in-Ok-read_bytes.ensures.ok c.in-Ok-read_bytes.ensures.all)
     (ap head_spelled_in (sym c.as_slice.ensures.value) ∙ c.in-Ok-head_spelled_in.ensures.ok) c.in-Err-read_bytes-2.ensures.stop
 
-pub returns-in-Ok-with_content-clause-ok : goal.returns-in-Ok-with_content-clause-ok
-returns-in-Ok-with_content-clause-ok g c =
+pub returns-in-Ok-into_entry_with_content-clause-ok : goal.returns-in-Ok-into_entry_with_content-clause-ok
+returns-in-Ok-into_entry_with_content-clause-ok g c =
     let fits : c.in-Ok.n ≤ 524288 = omega arith in
     let P : Stored → Type 0 = λ e. EntryIsRead (g.R.Read.remaining c.args.reader.now) (g.R.Read.remaining c.read_bytes-2.new.reader) c.args.hasher.now c.read_bytes-2.new.hasher (reading_of_entry (Some e)) in
-    subst P (sym c.in-Ok-with_content.ensures)
+    subst P (sym c.in-Ok-into_entry_with_content.ensures)
     (reads_entry _ _ _ _ _ _ c.in-Ok-read_bytes.text.items c.in-Ok-read_bytes-2.content.items c.in-Ok-head_spelled_in.head
     (head_given _ _ _ _ _ _ c.in-Ok.n c.in-Ok-read_bytes.text.items c.in-Ok.ensures.ok fits c.in-Ok-read_bytes.ensures.ok c.in-Ok-read_bytes.ensures.all)
     (ap head_spelled_in (sym c.as_slice.ensures.value) ∙ c.in-Ok-head_spelled_in.ensures.ok) c.in-Ok-read_bytes-2.ensures.ok c.in-Ok-read_bytes-2.ensures.all)

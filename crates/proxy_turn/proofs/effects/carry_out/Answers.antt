@@ -1,5 +1,5 @@
 use Rattle.std.proofs.Common.{◌≡◌, ◌<◌, ◌+◌, length, sym, subst, arith, rules}
-use Rattle.proxy_turn.specs.Parts.{EffectsWereCarriedOut}
+use Rattle.proxy_turn.specs.Parts.{EffectsWereHandled}
 use Rattle.proxy_turn.proofs.Counting.{on_err}
 use Rattle.proxy_turn.proofs.Carrying.{named_later, carried_more}
 use Rattle.proxy_turn.proofs.effects.carry_out.Goals as goal
@@ -23,7 +23,7 @@ loop-effect-preserved g c =
       done = λ s represents there.
           let done = c.loop-effect.invariant.done s represents there in
           let here = named_later c.ended_connections_and_links_stay_ended.ensures.takes s _ c.args.effects.now c.loop-effect.effect-index c.effect-item.result c.loop-effect.engine _ _ _ _ c.loop-effect.faults c.effect-item.is n there done in
-          subst (EffectsWereCarriedOut s _ _ c.carry_out_effect.new.engine _ _ _ _) (sym sum)
+          subst (EffectsWereHandled s _ _ c.carry_out_effect.new.engine _ _ _ _) (sym sum)
           (carried_more s _ c.args.effects.now c.loop-effect.effect-index c.effect-item.result c.loop-effect.engine c.carry_out_effect.new.engine _ _ _ _ _ _ _ _ c.loop-effect.faults c.in_ok-more.more c.effect-item.is n done
           (c.in_ok-more.ensures.ok done.last done.represents here)
           (λ x y p q. g.met.K.Sockets.joined _ _ _ x y p q));

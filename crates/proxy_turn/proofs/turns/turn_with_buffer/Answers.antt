@@ -6,4 +6,4 @@ returns-in_default-clause-turns g c = λ s represents h. not_begun c.args.now s 
 
 pub returns-clause-turns : goal.returns-clause-turns
 returns-clause-turns g c = λ s represents h.
-    one_turn c.readable_ends_may_send.ensures.each c.readable_ends_may_send.ensures.accept c.args.now s c.in-Ok.ends.items c.turn_over_ends.new.engine c.turn_over_ends.new.ends.items _ _ _ c.turn_over_ends.result (c.in-Ok.ensures s represents) (c.turn_over_ends.ensures.turns s represents h)
+    one_turn c.readable_ends_may_send.ensures.each c.readable_ends_may_send.ensures.accept c.args.now s c.in-Ok.ends.items c.turn_over_given_ends.new.engine c.turn_over_given_ends.new.ends.items _ _ _ c.turn_over_given_ends.result (c.in-Ok.ensures s represents) (c.turn_over_given_ends.ensures.turns s represents h)

@@ -1,6 +1,6 @@
 use Rattle.std.proofs.Common.{◌≡◌, ◌≤◌, ◌+◌, ◌-◌, Some, true, length, take, drop, vec_len, vec_capacity}
 use Rattle.hx_framing.specs.ChunkGrammar.{has_no_lf}
-use Rattle.hx_framing.specs.ChunkDecoder.{DataPhaseNeedsBytes, decoder_of_state}
+use Rattle.hx_framing.specs.ChunkDecoder.{DataPhaseNeedsBytes, chunk_decoder_with_empty_line}
 use Rattle.hx_framing.specs.Chunks.{decoder_after_bytes}
 use Rattle.hx_framing.proofs.contents.chunk_tokens.take_chunk_tokens.Given as goal
 
@@ -11,7 +11,7 @@ invariant-loop-n l = record {
   none : has_no_lf (take l.searched (drop l.taken l.bytes)) ≡ true;
   need : DataPhaseNeedsBytes l.place.phase l.place.need;
   room : vec_len l.content + (length l.bytes - l.taken) ≤ vec_capacity l.content;
-  leads : decoder_after_bytes (take l.taken l.bytes) (decoder_of_state l.fn.place l.fn.content.items) ≡ Some (decoder_of_state l.place l.content.items);
+  leads : decoder_after_bytes (take l.taken l.bytes) (chunk_decoder_with_empty_line l.fn.place l.fn.content.items) ≡ Some (chunk_decoder_with_empty_line l.place l.content.items);
 }
 
 abbrev pub decreases-loop-n : goal.decreases-loop-n

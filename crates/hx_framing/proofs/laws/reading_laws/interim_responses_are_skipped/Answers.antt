@@ -2,7 +2,7 @@ use Rattle.std.proofs.Common.{[], ◌∷◌, ◌++◌, refl, true, false, Some, 
 use Rattle.std.specs.Prelude.{codes}
 use Rattle.httparse.specs.Grammar.{ResponseHead}
 use Rattle.httparse.proofs.OnLiterals.{httparse_on_literals}
-use Rattle.hx_framing.specs.ReadingExamples.{ok_response_with}
+use Rattle.hx_framing.specs.ReadingExamples.{ok_response_text_with_lines}
 use Rattle.hx_framing.proofs.ReadingLemmas.{field, answered, reads_response, passes_interim, reads_no_response}
 use Rattle.hx_framing.proofs.laws.reading_laws.interim_responses_are_skipped.Goals as goal
 
@@ -26,8 +26,8 @@ switch_head = answered 1 (codes "101") (Some (codes "Switching Protocols")) (fie
 
 pub returns-clause-early_hints : goal.returns-clause-early_hints
 unfolding httparse_on_literals
-returns-clause-early_hints c = passes_interim 1000 false false (codes "HTTP/1.1 103 Early Hints\r\nLink: </style.css>; rel=preload; as=style\r\nLink: </script.js>; rel=preload; as=script\r\n\r\n" ++ ok_response_with (codes "Content-Length: 2\r\n") ++ codes "hi") early_hints_interim 115 _ refl refl refl refl
-    (reads_response 1000 false false (drop 115 (codes "HTTP/1.1 103 Early Hints\r\nLink: </style.css>; rel=preload; as=style\r\nLink: </script.js>; rel=preload; as=script\r\n\r\n" ++ ok_response_with (codes "Content-Length: 2\r\n") ++ codes "hi")) early_hints_head 38 _ refl refl refl refl refl)
+returns-clause-early_hints c = passes_interim 1000 false false (codes "HTTP/1.1 103 Early Hints\r\nLink: </style.css>; rel=preload; as=style\r\nLink: </script.js>; rel=preload; as=script\r\n\r\n" ++ ok_response_text_with_lines (codes "Content-Length: 2\r\n") ++ codes "hi") early_hints_interim 115 _ refl refl refl refl
+    (reads_response 1000 false false (drop 115 (codes "HTTP/1.1 103 Early Hints\r\nLink: </style.css>; rel=preload; as=style\r\nLink: </script.js>; rel=preload; as=script\r\n\r\n" ++ ok_response_text_with_lines (codes "Content-Length: 2\r\n") ++ codes "hi")) early_hints_head 38 _ refl refl refl refl refl)
 
 pub returns-clause-two : goal.returns-clause-two
 unfolding httparse_on_literals

@@ -2,7 +2,7 @@ use Rattle.std.proofs.Common.{[], ◌∷◌, ◌++◌, refl, false, Some}
 use Rattle.std.specs.Prelude.{codes}
 use Rattle.httparse.specs.Grammar.{RequestHead, ResponseHead}
 use Rattle.httparse.proofs.OnLiterals.{httparse_on_literals}
-use Rattle.hx_framing.specs.ReadingExamples.{put_request_with, ok_response_with}
+use Rattle.hx_framing.specs.ReadingExamples.{put_request_with, ok_response_text_with_lines}
 use Rattle.hx_framing.proofs.ReadingLemmas.{field, asked, answered, reads_request, reads_response}
 use Rattle.hx_framing.proofs.laws.reading_laws.only_chunked_is_read.Goals as goal
 
@@ -49,7 +49,7 @@ returns-clause-old c = reads_request 1000 false false (codes "PUT /a HTTP/1.0\r\
 
 pub returns-clause-response : goal.returns-clause-response
 unfolding httparse_on_literals
-returns-clause-response c = reads_response 1000 false false (ok_response_with (codes "Transfer-Encoding: gzip\r\n")) response_head 44 _ refl refl refl refl refl
+returns-clause-response c = reads_response 1000 false false (ok_response_text_with_lines (codes "Transfer-Encoding: gzip\r\n")) response_head 44 _ refl refl refl refl refl
 
 pub returns-clause-old_response : goal.returns-clause-old_response
 unfolding httparse_on_literals

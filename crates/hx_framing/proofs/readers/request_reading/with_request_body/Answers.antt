@@ -1,7 +1,7 @@
 use Rattle.std.proofs.Common.{◌+◌, sym, subst}
 use Rattle.hx_framing.specs.declared.messages.Request.{Request}
 use Rattle.hx_framing.specs.declared.contents.content.Content.{Content}
-use Rattle.hx_framing.specs.declared.readers.progress.HeadProgress.TheVariants as head_progress
+use Rattle.hx_framing.specs.declared.readers.progress.MessageProgress.TheVariants as head_progress
 use Rattle.hx_framing.specs.RequestHeadProgress.{IsProgressOfBytes, BytesBeginWithRequestHead}
 use Rattle.hx_framing.proofs.MemoryLemmas.{on_err}
 use Rattle.hx_framing.proofs.RequestProgressLemmas.{Begins, place_within, took, progress_continue, progress_going, progress_faulty, progress_message}

@@ -1,6 +1,6 @@
 use Rattle.std.proofs.Common.{◌+◌, sym, subst}
 use Rattle.hx_framing.specs.declared.messages.Response.{Response}
-use Rattle.hx_framing.specs.declared.readers.progress.HeadProgress.TheVariants as head_progress
+use Rattle.hx_framing.specs.declared.readers.progress.MessageProgress.TheVariants as head_progress
 use Rattle.hx_framing.specs.declared.contents.content.ContentProgress.TheVariants as content_progress
 use Rattle.hx_framing.specs.ResponseHeadProgress.{IsProgressOfBytes, FinalHeadFollowsInterimResponses}
 use Rattle.hx_framing.proofs.MemoryLemmas.{on_err}

@@ -1,9 +1,9 @@
 use Rattle.std.proofs.Common.{◌≡◌, ℕ, Bool, drop}
 use Rattle.std.specs.List.{list_all}
-use Rattle.hx_store.specs.Shelf.{find_entry, entry_matches_request}
+use Rattle.hx_store.specs.Shelf.{find_entry_of_serial, entry_vary_matches_request}
 use Rattle.hx_store.proofs.entry_cache.EntryCache.all_match.Given as goal
 
 abbrev pub invariant-loop-serial : goal.invariant-loop-serial
 invariant-loop-serial l =
-    let is : ℕ → Bool = λ s. entry_matches_request l.request (find_entry s l.self) in
+    let is : ℕ → Bool = λ s. entry_vary_matches_request l.request (find_entry_of_serial s l.self) in
     list_all is (drop l.serial-index l.serials) ≡ list_all is l.serials

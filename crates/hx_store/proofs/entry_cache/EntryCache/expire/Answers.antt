@@ -2,7 +2,7 @@ use Rattle.std.proofs.Common.{◌≡◌, ◌∷◌, [], refl, Some, ap, sym, ◌
 use Rattle.std.specs.Prelude.{is_some}
 use Rattle.std.specs.Option.{option_copied_mut}
 use Rattle.std.specs.Map.{lookup, values_of}
-use Rattle.hx_store.specs.Shelf.{holds_serial, entries_with_expired}
+use Rattle.hx_store.specs.Shelf.{holds_serial, entries_with_serials_expired}
 use Rattle.hx_store.specs.Keyed.{EntriesHaveDistinctSerials}
 use Rattle.hx_store.proofs.KeyedEntries.{lookup_holds}
 use Rattle.hx_store.proofs.ExpiredEntries.{apart-written, not-held-expired, written}
@@ -11,7 +11,7 @@ use Rattle.hx_store.proofs.entry_cache.EntryCache.expire.Goals.{in-Some, in_defa
 
 expired : (c : goal.Joined-peek_mut) →
     EntriesHaveDistinctSerials c.match-peek_mut.self-inside.entries.entries
-    × (values_of c.match-peek_mut.self-inside.entries.entries ≡ entries_with_expired (c.args.serial ∷ []) c.args.now (values_of c.self.inside.entries.entries))
+    × (values_of c.match-peek_mut.self-inside.entries.entries ≡ entries_with_serials_expired (c.args.serial ∷ []) c.args.now (values_of c.self.inside.entries.entries))
     × (c.match-peek_mut.self-inside.entries.cap ≡ c.self.inside.entries.cap)
 expired c = elim c.match-peek_mut.branch [
   | in-Some w ↦ (
@@ -38,4 +38,4 @@ pub invariant_of-self : goal.invariant_of-self
 invariant_of-self c = let e = expired c in (e.0, e.2 ∙ c.self.invariant.1)
 
 pub returns : goal.returns
-returns c = (expired c).1 ∙ ap (entries_with_expired (c.args.serial ∷ []) c.args.now) c.self.view_is
+returns c = (expired c).1 ∙ ap (entries_with_serials_expired (c.args.serial ∷ []) c.args.now) c.self.view_is

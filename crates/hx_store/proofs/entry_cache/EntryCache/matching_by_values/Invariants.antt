@@ -1,10 +1,10 @@
 use Rattle.std.proofs.Common.{◌≡◌, ◌++◌, ℕ, Bool, drop}
 use Rattle.std.specs.List.{filter}
 use Rattle.hx_store.specs.Index.{entry_matches_values}
-use Rattle.hx_store.specs.Shelf.{find_entry}
+use Rattle.hx_store.specs.Shelf.{find_entry_of_serial}
 use Rattle.hx_store.proofs.entry_cache.EntryCache.matching_by_values.Given as goal
 
 abbrev pub invariant-loop-serial : goal.invariant-loop-serial
 invariant-loop-serial l =
-    let is : ℕ → Bool = λ s. entry_matches_values l.asked.values (find_entry s l.self) in
+    let is : ℕ → Bool = λ s. entry_matches_values l.asked.values (find_entry_of_serial s l.self) in
     l.found ++ filter is (drop l.serial-index l.serials) ≡ filter is l.serials

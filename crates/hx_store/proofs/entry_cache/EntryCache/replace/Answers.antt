@@ -3,7 +3,7 @@ use Rattle.std.specs.Option.{option_copied_mut}
 use Rattle.std.specs.Map.{lookup, set_value, values_of}
 use Rattle.std.proofs.lemmas.Bool.{false≢true}
 use Rattle.lru.specs.LruCache.{lru_cache, promoted as lru_promoted}
-use Rattle.hx_store.specs.Shelf.{holds_serial, find_entry, without_serials}
+use Rattle.hx_store.specs.Shelf.{holds_serial, find_entry_of_serial, without_serials}
 use Rattle.hx_store.proofs.KeyedEntries.{lookup_finds, lookup_holds, replaces}
 use Rattle.hx_store.proofs.entry_cache.EntryCache.replace.Goals as goal
 use Rattle.hx_store.proofs.entry_cache.EntryCache.replace.Goals.{in-Some, in-None}
@@ -33,8 +33,8 @@ returns-clause-value c = elim c.match-get_mut.branch [
   | in-Some w ↦ (
       let ps = c.self.inside.entries.entries in
       let f : lookup (eqb c.entry.inside.serial) ps ≡ Some c.match-get_mut.result = search rules in
-      ap (find_entry c.args.entry.serial) (sym c.self.view_is)
-      ∙ ap (λ e. find_entry e.serial (values_of ps)) (sym c.entry.view_is)
+      ap (find_entry_of_serial c.args.entry.serial) (sym c.self.view_is)
+      ∙ ap (λ e. find_entry_of_serial e.serial (values_of ps)) (sym c.entry.view_is)
       ∙ sym (lookup_finds c.entry.inside.serial ps c.self.invariant.0.0)
       ∙ f
       )

@@ -5,7 +5,7 @@ use Rattle.proxy_core.specs.declared.event.Event.TheVariants.{Answer}
 use Rattle.proxy_core.specs.declared.replies.pending.AfterAnswer.{AfterAnswer}
 use Rattle.proxy_core.specs.Outcomes.{outcome_of_answer}
 use Rattle.proxy_core.specs.State.{bounds_of}
-use Rattle.proxy_core.specs.Pending.{outcome_after_answer, AnswerLeavesHeldAsStepDoes}
+use Rattle.proxy_core.specs.Pending.{outcome_after_answer, HeldAfterAnswerIsThatOfStep}
 use Rattle.proxy_core.proofs.Stepping.{answer_done}
 use Rattle.proxy_core.proofs.core_state.Core.answer.Goals as goal
 
@@ -17,6 +17,6 @@ returns-in_ok-finish-in-Ends-clause-ok g c =
     subst (λ (a : AfterAnswer). outcome_after_answer x a ≡ outcome_of_answer s.table s.entries c.args.now x c.args.response.now s.next (decision_of (policy_of s.table.lines x.line) s.entries x.asked c.args.now)) c.in-Ends.is
     c.in_ok-pending.ensures.outcome in
     let leaves =
-    subst (λ (a : AfterAnswer). AnswerLeavesHeldAsStepDoes (bounds_of s.table s.limit) s.entries x (Answer c.args.now x.id c.args.response.now) a) c.in-Ends.is c.in_ok-pending.ensures.leaves in
+    subst (λ (a : AfterAnswer). HeldAfterAnswerIsThatOfStep (bounds_of s.table s.limit) s.entries x (Answer c.args.now x.id c.args.response.now) a) c.in-Ends.is c.in_ok-pending.ensures.leaves in
     answer_done s c.args.now c.args.id c.in_ok-x.ensures.moment x c.args.response.now c.in-Ends.pending c.in_ok-invalidated.invalidated c.in_ok-finish-in-Ends.field-0.outcome c.finish.new.self
     c.in_ok-x.ensures.found c.in_ok-x.ensures.forwarded reply leaves c.in_ok-invalidated.ensures c.in_ok-finish-in-Ends.ensures.outcome c.in_ok-finish-in-Ends.ensures.after

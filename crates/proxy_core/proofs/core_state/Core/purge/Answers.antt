@@ -1,5 +1,5 @@
 use Rattle.std.proofs.Common.{sym, subst, ◌∙◌}
-use Rattle.hx_allow.specs.PurgeModes.{purge_mode_or_remove}
+use Rattle.hx_allow.specs.PurgeModes.{request_purge_mode_or_remove}
 use Rattle.proxy_core.specs.State.{NoSerialIsHeldFrom}
 use Rattle.proxy_core.proofs.ExpiredEntries.{NoneFrom-purged}
 use Rattle.proxy_core.proofs.core_state.Core.purge.Goals as goal

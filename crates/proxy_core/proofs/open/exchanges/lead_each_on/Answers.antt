@@ -3,8 +3,8 @@ use Rattle.std.specs.BTreeMap.{is_at}
 use Rattle.std.specs.Ordering.{nat_cmp}
 use Rattle.std.specs.Map.{lookup, set_value}
 use Rattle.proxy_core.specs.declared.open.exchange.Exchange.{Exchange}
-use Rattle.proxy_core.specs.Arrivals.{map_exchanges}
-use Rattle.proxy_core.specs.LeadingOn.{after_abandon}
+use Rattle.proxy_core.specs.Arrivals.{exchanges_each_changed}
+use Rattle.proxy_core.specs.LeadingOn.{waiter_after_abandon}
 use Rattle.proxy_core.proofs.LedOn.{led_away}
 use Rattle.proxy_core.proofs.Waiters.{TheRest, none_turned, turned_at, rest-closed, rest-turned}
 use Rattle.proxy_core.proofs.open.exchanges.lead_each_on.Goals as goal
@@ -16,7 +16,7 @@ loop-arrival-init c =
 pub loop-arrival-preserved-in-Some-get_mut : goal.loop-arrival-preserved-in-Some-get_mut
 loop-arrival-preserved-in-Some-get_mut c =
     let q = c.args.leader in
-    let f : Exchange → Exchange = after_abandon c.args.config.now (Some c.args.next) q in
+    let f : Exchange → Exchange = waiter_after_abandon c.args.config.now (Some c.args.next) q in
     let away = led_away c.args.config.now c.args.next q c.requires.another in
     let n = c.in-Some.arrival.now in
     let es = c.loop-arrival.by_arrival.entries in
@@ -24,7 +24,7 @@ loop-arrival-preserved-in-Some-get_mut c =
     let there : lookup (is_at (nat_cmp n)) es ≡ Some x = sym c.in-Some-get_mut.ensures.value in
     let is : (c.get_mut.follows.lender c.lead_on.new.self).entries ≡ set_value (is_at (nat_cmp n)) es (f x) =
     (c.get_mut.follows.holds c.lead_on.new.self).0 ∙ ap (set_value (is_at (nat_cmp n)) es) c.lead_on.ensures in (
-      ap (map_exchanges f) is ∙ (turned_at q f away n x es there ∙ c.loop-arrival.invariant.0),
+      ap (exchanges_each_changed f) is ∙ (turned_at q f away n x es there ∙ c.loop-arrival.invariant.0),
       subst (TheRest q c.next.new.self) (sym is)
           (rest-turned q f away n x c.next.new.self es c.in-Some-get_mut.ensures.ordered there
           (subst (λ ns. TheRest q ns es) c.in-Some.ensures.steps c.loop-arrival.invariant.1)),
@@ -36,7 +36,7 @@ loop-arrival-preserved c =
     let n = c.in-Some.arrival.now in
     let es = c.loop-arrival.by_arrival.entries in
     let is : es ≡ c.get_mut.follows.lender-at-none.entries = search rules in (
-      ap (map_exchanges (after_abandon c.args.config.now (Some c.args.next) q)) (sym is) ∙ c.loop-arrival.invariant.0,
+      ap (exchanges_each_changed (waiter_after_abandon c.args.config.now (Some c.args.next) q)) (sym is) ∙ c.loop-arrival.invariant.0,
       subst (TheRest q c.next.new.self) is
           (rest-closed q n c.next.new.self es c.in_default.ensures.value
           (subst (λ ns. TheRest q ns es) c.in-Some.ensures.steps c.loop-arrival.invariant.1)),
@@ -46,4 +46,4 @@ pub returns : goal.returns
 returns c =
     let q = c.args.leader in
     let es = c.loop-arrival.by_arrival.entries in
-    sym (none_turned q (after_abandon c.args.config.now (Some c.args.next) q) (led_away c.args.config.now c.args.next q c.requires.another) es (subst (λ ns. TheRest q ns es) c.in-None.ensures.steps.0 c.loop-arrival.invariant.1)) ∙ c.loop-arrival.invariant.0
+    sym (none_turned q (waiter_after_abandon c.args.config.now (Some c.args.next) q) (led_away c.args.config.now c.args.next q c.requires.another) es (subst (λ ns. TheRest q ns es) c.in-None.ensures.steps.0 c.loop-arrival.invariant.1)) ∙ c.loop-arrival.invariant.0

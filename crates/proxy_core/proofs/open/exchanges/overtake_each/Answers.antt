@@ -3,7 +3,7 @@ use Rattle.std.specs.BTreeMap.{is_at}
 use Rattle.std.specs.Ordering.{nat_cmp}
 use Rattle.std.specs.Map.{lookup, set_value}
 use Rattle.proxy_core.specs.Scopes.{scope_of_target_alone}
-use Rattle.proxy_core.specs.State.{overtaken_exchange}
+use Rattle.proxy_core.specs.State.{exchange_overtaken_if_in_scope}
 use Rattle.proxy_core.proofs.Overtaking.{overtaken_at, none_at, closed_at, set_at}
 use Rattle.proxy_core.proofs.open.exchanges.overtake_each.Goals as goal
 
@@ -18,7 +18,7 @@ loop-arrival-preserved-in-Some-get_mut c =
     let es = c.loop-arrival.by_arrival.entries in
     let x = c.in-Some-get_mut.x.now in
     let there : lookup (is_at (nat_cmp n)) es ≡ Some x = sym c.in-Some-get_mut.ensures.value in
-    let is : (c.get_mut.follows.lender c.overtake.new.self).entries ≡ set_value (is_at (nat_cmp n)) es (overtaken_exchange (scope_of_target_alone key) x) =
+    let is : (c.get_mut.follows.lender c.overtake.new.self).entries ≡ set_value (is_at (nat_cmp n)) es (exchange_overtaken_if_in_scope (scope_of_target_alone key) x) =
     (c.get_mut.follows.holds c.overtake.new.self).0 ∙ ap (set_value (is_at (nat_cmp n)) es) c.overtake.ensures in
     ap (overtaken_at key c.next.new.self) is
     ∙ (set_at key n x c.next.new.self es c.in-Some-get_mut.ensures.ordered there

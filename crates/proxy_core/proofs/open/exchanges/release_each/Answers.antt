@@ -2,8 +2,8 @@ use Rattle.std.proofs.Common.{rules, ◌≡◌, Some, refl, sym, ap, subst, ◌�
 use Rattle.std.specs.BTreeMap.{is_at}
 use Rattle.std.specs.Ordering.{nat_cmp}
 use Rattle.std.specs.Map.{lookup, set_value}
-use Rattle.proxy_core.specs.Arrivals.{map_exchanges}
-use Rattle.proxy_core.specs.State.{released_exchange}
+use Rattle.proxy_core.specs.Arrivals.{exchanges_each_changed}
+use Rattle.proxy_core.specs.State.{exchange_released_from_leader}
 use Rattle.proxy_core.proofs.Waiters.{TheRest, none_released, released_at, rest-closed, rest-released}
 use Rattle.proxy_core.proofs.open.exchanges.release_each.Goals as goal
 
@@ -18,9 +18,9 @@ loop-arrival-preserved-in-Some-get_mut c =
     let es = c.loop-arrival.by_arrival.entries in
     let x = c.in-Some-get_mut.x.now in
     let there : lookup (is_at (nat_cmp n)) es ≡ Some x = sym c.in-Some-get_mut.ensures.value in
-    let is : (c.get_mut.follows.lender c.release.new.self).entries ≡ set_value (is_at (nat_cmp n)) es (released_exchange q x) =
+    let is : (c.get_mut.follows.lender c.release.new.self).entries ≡ set_value (is_at (nat_cmp n)) es (exchange_released_from_leader q x) =
     (c.get_mut.follows.holds c.release.new.self).0 ∙ ap (set_value (is_at (nat_cmp n)) es) c.release.ensures in (
-      ap (map_exchanges (released_exchange q)) is ∙ (released_at q n x es there ∙ c.loop-arrival.invariant.0),
+      ap (exchanges_each_changed (exchange_released_from_leader q)) is ∙ (released_at q n x es there ∙ c.loop-arrival.invariant.0),
       subst (TheRest q c.next.new.self) (sym is)
           (rest-released q n x c.next.new.self es c.in-Some-get_mut.ensures.ordered there
           (subst (λ ns. TheRest q ns es) c.in-Some.ensures.steps c.loop-arrival.invariant.1)),
@@ -32,7 +32,7 @@ loop-arrival-preserved c =
     let n = c.in-Some.arrival.now in
     let es = c.loop-arrival.by_arrival.entries in
     let is : es ≡ c.get_mut.follows.lender-at-none.entries = search rules in (
-      ap (map_exchanges (released_exchange q)) (sym is) ∙ c.loop-arrival.invariant.0,
+      ap (exchanges_each_changed (exchange_released_from_leader q)) (sym is) ∙ c.loop-arrival.invariant.0,
       subst (TheRest q c.next.new.self) is
           (rest-closed q n c.next.new.self es c.in_default.ensures.value
           (subst (λ ns. TheRest q ns es) c.in-Some.ensures.steps c.loop-arrival.invariant.1)),

@@ -1,7 +1,7 @@
 use Rattle.std.proofs.Common.{ℕ, List, [], ap, sym, ◌∙◌}
-use Rattle.proxy_core.specs.Abouts.{about_in_place_of_answer}
+use Rattle.proxy_core.specs.Abouts.{report_in_place_of_answer}
 use Rattle.proxy_core.specs.Replies.{content_unless_head}
-use Rattle.proxy_core.proofs.AnswerParts.{about_unsatisfied_in_place, unsatisfied_in_place}
+use Rattle.proxy_core.proofs.AnswerParts.{report_of_unsatisfied_in_place, unsatisfied_in_place}
 use Rattle.proxy_core.proofs.replies.answer_parts.unsatisfied_text.Goals as goal
 
 pub returns-clause-text : goal.returns-clause-text
@@ -16,6 +16,6 @@ returns-clause-about c =
     let shown = c.args.shown in
     let answer = c.args.answer.now in
     let sent_is = c.content_unless_head-sent.ensures ∙ ap (λ b. content_unless_head b []) c.is_head.ensures in
-    c.about_in_place_of_answer-about.ensures
-    ∙ ap (λ (sent : List ℕ). about_in_place_of_answer shown.policy answer.exchange.now answer.response.now answer.response_time shown.stored shown.rule 416 sent) sent_is
-    ∙ about_unsatisfied_in_place shown.policy c.args.name.now answer.exchange.now answer.response.now c.args.head.now answer.response_time shown.stored shown.rule c.requires.head _ _ c.in_ok-lines.ensures (sym c.head_leaves_room.ensures ∙ c.if-not-head_leaves_room.false) _ c.len-total.ensures c.in_ok-own.ensures
+    c.report_in_place_of_answer-about.ensures
+    ∙ ap (λ (sent : List ℕ). report_in_place_of_answer shown.policy answer.exchange.now answer.response.now answer.response_time shown.stored shown.rule 416 sent) sent_is
+    ∙ report_of_unsatisfied_in_place shown.policy c.args.name.now answer.exchange.now answer.response.now c.args.head.now answer.response_time shown.stored shown.rule c.requires.head _ _ c.in_ok-lines.ensures (sym c.head_leaves_room.ensures ∙ c.if-not-head_leaves_room.false) _ c.len-total.ensures c.in_ok-own.ensures

@@ -2,11 +2,11 @@ use Rattle.std.proofs.Common.{◌≡◌, ◌+◌, ◌≤◌, ◌^◌, ◌∙◌,
 use Rattle.std.specs.Option.{option_map}
 use Rattle.proxy_script.specs.declared.effect_list.Effect.{Effect}
 use Rattle.proxy_script.specs.declared.effect_list.Effect.TheVariants.{Drop}
-use Rattle.proxy_engine.specs.Questions.{question_of}
+use Rattle.proxy_engine.specs.Questions.{question_of_request}
 use Rattle.proxy_engine.specs.EngineModel.{no_link}
 use Rattle.proxy_engine.specs.Due.{LinkResult, Finishes}
 use Rattle.proxy_engine.specs.Acts.{outcome_with_origin_address, effects_of_outcome, model_after_outcome}
-use Rattle.proxy_engine.specs.State.{LinkRepresents, EngineRepresents, engine_state, EngineDoesAct, link_result_at, link_work_left}
+use Rattle.proxy_engine.specs.State.{LinkRepresents, EngineRepresents, engine_state_of_parts, EngineDoesAct, link_result_at, work_left_of_link}
 use Rattle.proxy_engine.specs.Pairing.{owners_of_links}
 use Rattle.proxy_engine.specs.declared.endpoints.ends.Link.{Link}
 use Rattle.proxy_engine.proofs.Parts.{both_length, both_at}
@@ -88,7 +88,7 @@ pub returns-clause-less : goal.returns-clause-less
 returns-clause-less g c = rw (← c.self.view_is) (
     let rooms = c.reserve_place.new.self.items in
     let ended = (rw c.number_at-id.ensures at c.in_ok-step.ensures.ok) in
-    let counts : link_work_left (get_or rooms c.args.j None) ≡ 2 = link_counts (get_or rooms c.args.j None) ended.0 (ap link_result_at c.at-2.ensures ∙ ended.1) in
+    let counts : work_left_of_link (get_or rooms c.args.j None) ≡ 2 = link_counts (get_or rooms c.args.j None) ended.0 (ap link_result_at c.at-2.ensures ∙ ended.1) in
     let cs = c.self.inside.ends.connections.items in
     let ks = c.self.inside.ends.links.items in
     let core = c.self.inside.core in
@@ -96,7 +96,7 @@ returns-clause-less g c = rw (← c.self.view_is) (
     let there = subst (λ (ls : List (Option Link)). get_or ls c.args.j None ≡ Some x) c.reserve_place.ensures.items c.at.ensures in
     let is_there = is_open cs ks core.exchanges x.connection c.args.j (owned_link cs ks core.exchanges c.args.j x there c.self.invariant) c.self.invariant in
     let few = one_more c.in_ok-step.step.outcome (x.connection + 1) core.exchanges c.end.new.core.exchanges (remains core c.end.new.core c.args.now (x.connection + 1) ended.0 c.in_ok-step.step.outcome is_there ended.2) in
-    omega (arith, counts, few, ap (sum_by link_work_left) c.reserve_place.ensures.items, c.end_exchange_of_link.ensures.load, c.carry_out.ensures.load)
+    omega (arith, counts, few, ap (sum_by work_left_of_link) c.reserve_place.ensures.items, c.end_exchange_of_link.ensures.load, c.carry_out.ensures.load)
     )
 
 pub returns-clause-ok : goal.returns-clause-ok
@@ -126,14 +126,14 @@ returns-clause-ok g c = rw (← c.self.view_is) (
     let emitted : c.put.new.effects.items ≡ Drop (c.self.inside.ends.first_link + j) ∷ [] = emitted_one c.in_ok-effects.effects.items c.put.new.effects.items _ c.put.ensures.items c.in_ok-effects.ensures.items ∙ ap (λ (n : ℕ). Drop n ∷ []) number in
     let table = c.config-config.result.now in
     let table_is : table ≡ core.table = c.config-config.ensures ∙ ends_table core c.end.new.core c.args.now (i + 1) ended.0 c.in_ok-step.step.outcome ended.2 in
-    let free = c.end_exchange_of_link.ensures.represents s core c.self.inside.ends.first_link (subst (λ (ls : List (Option Link)). EngineRepresents (engine_state cs ls core c.self.inside.ends.first_link) s) (sym items) h) in
+    let free = c.end_exchange_of_link.ensures.represents s core c.self.inside.ends.first_link (subst (λ (ls : List (Option Link)). EngineRepresents (engine_state_of_parts cs ls core c.self.inside.ends.first_link) s) (sym items) h) in
     let fresh = c.end_exchange_of_link.ensures.links in
-    subst (λ (n : ℕ). EngineDoesAct s c.args.now (Finishes j f) c.carry_out.new.effects.items (engine_state c.carry_out.new.self.connections.items c.carry_out.new.self.links.items c.end.new.core n)) (sym c.carry_out.ensures.first)
-    (subst (λ (x : LinkResult). EngineDoesAct s c.args.now (Finishes j x) c.carry_out.new.effects.items (engine_state c.carry_out.new.self.connections.items c.carry_out.new.self.links.items c.end.new.core c.self.inside.ends.first_link)) (sym same)
+    subst (λ (n : ℕ). EngineDoesAct s c.args.now (Finishes j f) c.carry_out.new.effects.items (engine_state_of_parts c.carry_out.new.self.connections.items c.carry_out.new.self.links.items c.end.new.core n)) (sym c.carry_out.ensures.first)
+    (subst (λ (x : LinkResult). EngineDoesAct s c.args.now (Finishes j x) c.carry_out.new.effects.items (engine_state_of_parts c.carry_out.new.self.connections.items c.carry_out.new.self.links.items c.end.new.core c.self.inside.ends.first_link)) (sym same)
     (finished_done s c.end_exchange_of_link.new.connections.items c.carry_out.new.self.connections.items c.end_exchange_of_link.new.links.items c.carry_out.new.self.links.items core c.end.new.core c.self.inside.ends.first_link c.args.now i j ended.0 c.in_ok-step.step.outcome
-    table c.exchange_asks_head-to_head.result (option_map question_of c.in_ok-step.step.asked) c.carry_out.new.effects.items is_there (λ t. let few = (rw (← c.self.view_is) at c.requires.left) ended.0 due t in omega (arith, few, links)) ended.2 table_is
+    table c.exchange_asks_head-to_head.result (option_map question_of_request c.in_ok-step.step.asked) c.carry_out.new.effects.items is_there (λ t. let few = (rw (← c.self.view_is) at c.requires.left) ended.0 due t in omega (arith, few, links)) ended.2 table_is
     (rw c.number_at-id.ensures at c.exchange_asks_head-to_head.ensures)
-    (ap (option_map question_of) (rw c.number_at-id.ensures at c.in_ok-step.ensures.asked)) (omega (arith, fresh, sizes, links, first_is))
-    (c.carry_out.ensures.effects ∙ ap (λ (b : List Effect). b ++ effects_of_outcome i (c.self.inside.ends.first_link + length c.end_exchange_of_link.new.links.items) (option_map question_of c.in_ok-step.step.asked) (outcome_with_origin_address table c.in_ok-step.step.outcome)) emitted)
-    first_is h.core owner.connection free (λ t k most represents. subst (λ (n : ℕ). EngineRepresents (engine_state c.carry_out.new.self.connections.items c.carry_out.new.self.links.items k n) (model_after_outcome i c.exchange_asks_head-to_head.result (outcome_with_origin_address table c.in_ok-step.step.outcome) t)) c.carry_out.ensures.first (c.carry_out.ensures.represents t k most represents))))
+    (ap (option_map question_of_request) (rw c.number_at-id.ensures at c.in_ok-step.ensures.asked)) (omega (arith, fresh, sizes, links, first_is))
+    (c.carry_out.ensures.effects ∙ ap (λ (b : List Effect). b ++ effects_of_outcome i (c.self.inside.ends.first_link + length c.end_exchange_of_link.new.links.items) (option_map question_of_request c.in_ok-step.step.asked) (outcome_with_origin_address table c.in_ok-step.step.outcome)) emitted)
+    first_is h.core owner.connection free (λ t k most represents. subst (λ (n : ℕ). EngineRepresents (engine_state_of_parts c.carry_out.new.self.connections.items c.carry_out.new.self.links.items k n) (model_after_outcome i c.exchange_asks_head-to_head.result (outcome_with_origin_address table c.in_ok-step.step.outcome) t)) c.carry_out.ensures.first (c.carry_out.ensures.represents t k most represents))))
     )

@@ -8,13 +8,13 @@ use Rattle.proxy_engine.specs.declared.endpoints.lookahead.Lookahead.{Lookahead}
 use Rattle.proxy_engine.specs.declared.endpoints.lookahead.Lookahead.TheVariants.{Unknown, Quiet, Due}
 use Rattle.proxy_engine.specs.Lookahead.{lookahead_is_due}
 use Rattle.proxy_engine.specs.Due.{LinkResult, Gives, Breaks}
-use Rattle.proxy_engine.specs.State.{link_result_seen}
+use Rattle.proxy_engine.specs.State.{link_result_of_lookahead}
 use Rattle.proxy_engine.proofs.Acting.{on_ok}
 use Rattle.proxy_engine.proofs.Ending.{given_seen}
 use Rattle.proxy_engine.proofs.steps.finishing.end.Goals as goal
 
 -- where nothing stands on a link its failure counts
-failure_seen : (l : Lookahead Response) (failed : Option FailKind) (kind : FailKind) → false ≡ lookahead_is_due l → failed ≡ Some kind → link_result_seen l failed ≡ Some (Breaks kind)
+failure_seen : (l : Lookahead Response) (failed : Option FailKind) (kind : FailKind) → false ≡ lookahead_is_due l → failed ≡ Some kind → link_result_of_lookahead l failed ≡ Some (Breaks kind)
 failure_seen Unknown failed kind quiet is = ap (option_map Breaks) is
 failure_seen Quiet failed kind quiet is = ap (option_map Breaks) is
 failure_seen (Due next.More) failed kind quiet is = ap (option_map Breaks) is

@@ -1,8 +1,8 @@
 use Rattle.std.proofs.Common.{List, Option, None, true, refl, sym, ap, subst, ◌∙◌, arith, sum_by}
 use Rattle.std.proofs.lemmas.List.{map-set}
-use Rattle.proxy_engine.specs.EngineModel.{with_link}
+use Rattle.proxy_engine.specs.EngineModel.{with_changed_link}
 use Rattle.proxy_engine.specs.Acts.{connection_with_activity, link_model_dropped, model_after_link_freed}
-use Rattle.proxy_engine.specs.State.{EngineRepresents, engine_state, connection_work_left, link_work_left}
+use Rattle.proxy_engine.specs.State.{EngineRepresents, engine_state_of_parts, work_left_of_connection, work_left_of_link}
 use Rattle.proxy_engine.specs.Pairing.{activity_of_connection, activities_of_connections, owner_of_open_link, owners_of_links}
 use Rattle.proxy_engine.specs.declared.endpoints.ends.Connection.{Connection}
 use Rattle.proxy_engine.specs.declared.endpoints.ends.Link.{Link}
@@ -21,11 +21,11 @@ returns-clause-represents c = λ s core first h.
     let ks = c.args.links.now.items in
     let i = c.args.i in
     let j = c.args.j in
-    let dropped : EngineRepresents (engine_state cs c.release.new.self.items core first) (with_link s j link_model_dropped) =
-    subst (λ (ls : List (Option Link)). EngineRepresents (engine_state cs ls core first) (with_link s j link_model_dropped)) (sym c.release.ensures.items)
+    let dropped : EngineRepresents (engine_state_of_parts cs c.release.new.self.items core first) (with_changed_link s j link_model_dropped) =
+    subst (λ (ls : List (Option Link)). EngineRepresents (engine_state_of_parts cs ls core first) (with_changed_link s j link_model_dropped)) (sym c.release.ensures.items)
     (changed_link link_model_dropped cs ks core first s j None (inside ks j c.requires.link) (λ k q. refl) h) in
-    subst (λ (ds : List (Option Connection)). EngineRepresents (engine_state ds c.release.new.self.items core first) (model_after_link_freed s j i)) (sym c.release-2.ensures)
-    (changed_connection (connection_with_activity Free) cs c.release.new.self.items core first (with_link s j link_model_dropped) i None (inside cs i (gone_there _ true c.requires.connection)) (λ k q. lost_over _ k c.requires.connection q) dropped)
+    subst (λ (ds : List (Option Connection)). EngineRepresents (engine_state_of_parts ds c.release.new.self.items core first) (model_after_link_freed s j i)) (sym c.release-2.ensures)
+    (changed_connection (connection_with_activity Free) cs c.release.new.self.items core first (with_changed_link s j link_model_dropped) i None (inside cs i (gone_there _ true c.requires.connection)) (λ k q. lost_over _ k c.requires.connection q) dropped)
 
 pub returns-clause-activities : goal.returns-clause-activities
 returns-clause-activities c = ap activities_of_connections c.release-2.ensures ∙ map-set activity_of_connection c.args.connections.now.items c.args.i None
@@ -38,6 +38,6 @@ returns-clause-load c =
     let cs = c.args.connections.now.items in
     let ks = c.args.links.now.items in
     let there = gone_there _ true c.requires.connection in
-    let links = sum_changed link_work_left ks c.args.j None None (inside ks c.args.j c.requires.link) in
-    let connections = sum_changed connection_work_left cs c.args.i None None (inside cs c.args.i there) in
-    omega (arith, links, connections, counts_one _ there, ap (sum_by link_work_left) c.release.ensures.items, ap (sum_by connection_work_left) c.release-2.ensures)
+    let links = sum_changed work_left_of_link ks c.args.j None None (inside ks c.args.j c.requires.link) in
+    let connections = sum_changed work_left_of_connection cs c.args.i None None (inside cs c.args.i there) in
+    omega (arith, links, connections, counts_one _ there, ap (sum_by work_left_of_link) c.release.ensures.items, ap (sum_by work_left_of_connection) c.release-2.ensures)

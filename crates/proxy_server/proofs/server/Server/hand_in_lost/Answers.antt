@@ -9,7 +9,7 @@ loop-init g c = none_on c.args.self.now _ refl
 
 pub loop-preserved : goal.loop-preserved
 loop-preserved g c =
-    elim c.match-take_lost_client.branch [
+    elim c.match-take_lost_end.branch [
       | in-Some w ↦
           subst (ServerTakesEndLosses c.args.self.now) (sym w.self-is)
           (on_from c.a_turn_is_served_after_end_losses.ensures.joined c.args.self.now c.loop.self _ w.disconnect.new.self c.self-in-loop.view_is c.loop.invariant w.disconnect.ensures.on)

@@ -8,7 +8,7 @@ loop-init g c = none_on c.args.self.now _ refl
 
 pub loop-preserved : goal.loop-preserved
 loop-preserved g c =
-    subst (ServerTakesEndLosses c.args.self.now) (sym c.has_waited_seconds.ensures)
+    subst (ServerTakesEndLosses c.args.self.now) (sym c.has_waited_seconds_for_another.ensures)
     (on_from c.a_turn_is_served_after_end_losses.ensures.joined c.args.self.now c.loop.self _ c.release_room.new.self c.self-in-loop.view_is c.loop.invariant c.release_room.ensures)
 
 pub returns-in_default : goal.returns-in_default

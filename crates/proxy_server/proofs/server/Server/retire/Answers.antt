@@ -1,6 +1,6 @@
 use Rattle.std.proofs.Common.{ℕ, refl, sym, ap, subst, ◌∙◌}
 use Rattle.std.specs.Prelude.{◌<◌}
-use Rattle.hx_fields.specs.declared.limits.TheConstants.{END_OF_TIME}
+use Rattle.hx_fields.specs.declared.limits.TheConstants.{START_OF_YEAR_10000}
 use Rattle.proxy_engine.specs.Happenings.{Retires}
 use Rattle.proxy_turn.specs.Counts.{calls}
 use Rattle.proxy_server.proofs.Losing.{one_taken, one_refused, one_taken_on, did_well}
@@ -12,7 +12,7 @@ invariant_of-self g c =
     let took = did_well c.take.result (sym c.is_ok.ensures.value ∙ c.if-is_ok.true) c.take.ensures.ok in
     let lost = losses.one c.self.inside.engine c.take.new.self (Retires c.args.n) tt took in (
       c.a_reachable_engine_stays_reachable.ensures.executed c.self.inside.engine c.take.new.self (losses.on c.self.inside.engine c.take.new.self lost) c.self.invariant.0,
-      subst (λ (moment : ℕ). moment < END_OF_TIME) (sym (ap (λ r. r.moment) c.record_between_turns.ensures.rest)) c.self.invariant.1,
+      subst (λ (moment : ℕ). moment < START_OF_YEAR_10000) (sym (ap (λ r. r.moment) c.record_between_turns.ensures.rest)) c.self.invariant.1,
     )
 
 pub returns-then-is_ok-clause-retires : goal.returns-then-is_ok-clause-retires

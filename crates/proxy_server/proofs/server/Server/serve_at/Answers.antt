@@ -1,6 +1,6 @@
 use Rattle.std.proofs.Common.{rules, ◌≡◌, refl, sym, ap, subst, ◌∙◌, Err, is_some}
 use Rattle.std.specs.Prelude.{◌<◌}
-use Rattle.hx_fields.specs.declared.limits.TheConstants.{END_OF_TIME}
+use Rattle.hx_fields.specs.declared.limits.TheConstants.{START_OF_YEAR_10000}
 use Rattle.proxy_turn.specs.Counts.{calls}
 use Rattle.proxy_turn.specs.declared.report.TurnFault.TheVariants as faults
 use Rattle.proxy_server.specs.ServerState.{ServerState}
@@ -19,7 +19,7 @@ returns-in-Ok g c =
     ] in
     let begun = begun_from c.args.now _ _ c.args.self.now first
     (ap (λ r. server_state c.if-refresh.self-inside.engine r.recorder (is_some r.fault) r.moment r.taken c.if-refresh.self-inside.pace.settled (calls r.accepts r.reads r.failures)) c.begin-moment.ensures.begun) in
-    let before = subst (λ (a : ServerState). a.moment < END_OF_TIME) c.self.view_is c.self.invariant.1 in
+    let before = subst (λ (a : ServerState). a.moment < START_OF_YEAR_10000) c.self.view_is c.self.invariant.1 in
     let answered = answered_at c.args.now _ c.args.self.now c.turn_at-reported.new.self c.look_ahead.new.self c.turn_at-reported.result c.begin-moment.result begun c.requires before c.turn_at-reported.ensures c.look_ahead.ensures c.begin-moment.ensures.moment in
     (subst TurnHadLinkNumbersLeft (sym c.in-Ok.is) tt, answered)
 
@@ -36,7 +36,7 @@ returns-in-Err-Listener g c =
     ] in
     let begun = begun_from c.args.now _ _ c.args.self.now first
     (ap (λ r. server_state c.if-refresh.self-inside.engine r.recorder (is_some r.fault) r.moment r.taken c.if-refresh.self-inside.pace.settled (calls r.accepts r.reads r.failures)) c.begin-moment.ensures.begun) in
-    let before = subst (λ (a : ServerState). a.moment < END_OF_TIME) c.self.view_is c.self.invariant.1 in
+    let before = subst (λ (a : ServerState). a.moment < START_OF_YEAR_10000) c.self.view_is c.self.invariant.1 in
     let answered = answered_at c.args.now _ c.args.self.now c.turn_at-reported.new.self c.look_ahead.new.self c.turn_at-reported.result c.begin-moment.result begun c.requires before c.turn_at-reported.ensures c.look_ahead.ensures c.begin-moment.ensures.moment in
     (subst TurnHadLinkNumbersLeft (sym says) tt, answered)
 
@@ -53,7 +53,7 @@ returns-in-Err-NoMemory g c =
     ] in
     let begun = begun_from c.args.now _ _ c.args.self.now first
     (ap (λ r. server_state c.if-refresh.self-inside.engine r.recorder (is_some r.fault) r.moment r.taken c.if-refresh.self-inside.pace.settled (calls r.accepts r.reads r.failures)) c.begin-moment.ensures.begun) in
-    let before = subst (λ (a : ServerState). a.moment < END_OF_TIME) c.self.view_is c.self.invariant.1 in
+    let before = subst (λ (a : ServerState). a.moment < START_OF_YEAR_10000) c.self.view_is c.self.invariant.1 in
     let answered = answered_at c.args.now _ c.args.self.now c.turn_at-reported.new.self c.look_ahead.new.self c.turn_at-reported.result c.begin-moment.result begun c.requires before c.turn_at-reported.ensures c.look_ahead.ensures c.begin-moment.ensures.moment in
     (subst TurnHadLinkNumbersLeft (sym says) tt, answered)
 
@@ -70,7 +70,7 @@ returns-in-Err-Spent g c =
     ] in
     let begun = begun_from c.args.now _ _ c.args.self.now first
     (ap (λ r. server_state c.if-refresh.self-inside.engine r.recorder (is_some r.fault) r.moment r.taken c.if-refresh.self-inside.pace.settled (calls r.accepts r.reads r.failures)) c.begin-moment.ensures.begun) in
-    let before = subst (λ (a : ServerState). a.moment < END_OF_TIME) c.self.view_is c.self.invariant.1 in
+    let before = subst (λ (a : ServerState). a.moment < START_OF_YEAR_10000) c.self.view_is c.self.invariant.1 in
     let settled = settled_behind c.args.now _ c.args.self.now c.turn_at-reported.new.self c.look_ahead.new.self c.turn_at-reported.result begun c.requires before c.turn_at-reported.ensures c.look_ahead.ensures in
     subst (TurnIsServedAndSettled c.args.self.now c.look_ahead.new.self) says settled
 
@@ -84,5 +84,5 @@ returns-in-Some g c =
     ] in
     let begun = begun_from c.args.now _ _ c.args.self.now first
     (ap (λ r. server_state c.if-refresh.self-inside.engine r.recorder (is_some r.fault) r.moment r.taken c.if-refresh.self-inside.pace.settled (calls r.accepts r.reads r.failures)) c.begin-moment.ensures.begun) in
-    let before = subst (λ (a : ServerState). a.moment < END_OF_TIME) c.self.view_is c.self.invariant.1 in
+    let before = subst (λ (a : ServerState). a.moment < START_OF_YEAR_10000) c.self.view_is c.self.invariant.1 in
     (search rules, (c.turn_at-reported.result, served_behind c.args.now _ c.args.self.now c.turn_at-reported.new.self c.turn_at-reported.result begun c.requires before c.turn_at-reported.ensures))

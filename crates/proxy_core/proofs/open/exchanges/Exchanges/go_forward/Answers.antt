@@ -4,15 +4,15 @@ use Rattle.std.specs.Ordering.{nat_cmp}
 use Rattle.std.specs.BTreeMap.{get}
 use Rattle.std.specs.Map.{values_of}
 use Rattle.proxy_core.specs.declared.open.exchange.Exchange.{Exchange}
-use Rattle.proxy_core.specs.State.{exchange_forwarded_again}
+use Rattle.proxy_core.specs.State.{exchange_after_second_forward}
 use Rattle.proxy_core.specs.Leading.{is_forwarded}
 use Rattle.proxy_core.specs.ByKey.{ArrivalsByKeyAreExact}
 use Rattle.proxy_core.specs.ExchangeIndexes.{ExchangeIndexesAreExact}
 use Rattle.proxy_core.proofs.AskedArrivals.{asked-again, asked-moved, written_again}
-use Rattle.proxy_core.specs.Releases.{may_be_released, ReleasedArrivalsPassTest}
+use Rattle.proxy_core.specs.Releases.{arrival_may_be_released, ReleasedArrivalsPassTest}
 use Rattle.proxy_core.proofs.Releases.{pass-changed, released-gone}
 use Rattle.proxy_core.proofs.Waiters.{AllIndexed, waiters-again, waiters-written}
-use Rattle.proxy_core.specs.Arrivals.{map_exchanges, IsIdIndexOf, arrival_number_of_id}
+use Rattle.proxy_core.specs.Arrivals.{exchanges_each_changed, IsIdIndexOf, arrival_number_of_id}
 use Rattle.proxy_core.proofs.ExchangeLists.{gone_out-id}
 use Rattle.proxy_core.proofs.Arrivals.{indexed_on_all, values_on_all, gone_out-others, gone_written, same_all, has_number}
 use Rattle.proxy_core.proofs.open.exchanges.Exchanges.go_forward.Goals as goal
@@ -20,24 +20,24 @@ use Rattle.proxy_core.proofs.open.exchanges.Exchanges.go_forward.Goals as goal
 pub settle-requires : goal.settle-requires
 settle-requires c =
     let s = c.self.inside in
-    let is : (c.get_mut.follows.lender c.go_forward.new.self).entries ≡ map_exchanges (exchange_forwarded_again c.args.id c.args.now) c.self.inside.by_arrival.entries =
+    let is : (c.get_mut.follows.lender c.go_forward.new.self).entries ≡ exchanges_each_changed (exchange_after_second_forward c.args.id c.args.now) c.self.inside.by_arrival.entries =
     (c.get_mut.follows.holds c.go_forward.new.self).0
     ∙ gone_written c.args.id c.args.now c.in-Some.arrival.now c.in-Some-get_mut.x.now c.go_forward.new.self c.self.inside.by_arrival.entries (λ id. get nat_cmp c.self.inside.arrivals id) c.self.invariant.indexes.ids
     c.in-Some.ensures.value c.in-Some-get_mut.ensures.value c.go_forward.ensures in
-    subst (ReleasedArrivalsPassTest (may_be_released s.released)) (sym is)
-    (pass-changed (may_be_released s.released) (exchange_forwarded_again c.args.id c.args.now) (released-gone c.args.id c.args.now) s.by_arrival.entries c.self.invariant.releases.within)
+    subst (ReleasedArrivalsPassTest (arrival_may_be_released s.released)) (sym is)
+    (pass-changed (arrival_may_be_released s.released) (exchange_after_second_forward c.args.id c.args.now) (released-gone c.args.id c.args.now) s.by_arrival.entries c.self.invariant.releases.within)
 
 pub invariant_of-self-2 : goal.invariant_of-self-2
 invariant_of-self-2 c =
     let s = c.self.inside in
-    let is : (c.get_mut.follows.lender c.go_forward.new.self).entries ≡ map_exchanges (exchange_forwarded_again c.args.id c.args.now) c.self.inside.by_arrival.entries =
+    let is : (c.get_mut.follows.lender c.go_forward.new.self).entries ≡ exchanges_each_changed (exchange_after_second_forward c.args.id c.args.now) c.self.inside.by_arrival.entries =
     (c.get_mut.follows.holds c.go_forward.new.self).0
     ∙ gone_written c.args.id c.args.now c.in-Some.arrival.now c.in-Some-get_mut.x.now c.go_forward.new.self c.self.inside.by_arrival.entries (λ id. get nat_cmp c.self.inside.arrivals id) c.self.invariant.indexes.ids
     c.in-Some.ensures.value c.in-Some-get_mut.ensures.value c.go_forward.ensures in
     record {
       indexes = record {
         ids = subst (λ (zs : List (ℕ × Exchange)). IsIdIndexOf zs (λ id. get nat_cmp s.arrivals id)) (sym is)
-            (indexed_on_all (exchange_forwarded_again c.args.id c.args.now) (gone_out-id c.args.id c.args.now) s.by_arrival.entries _ c.self.invariant.indexes.ids);
+            (indexed_on_all (exchange_after_second_forward c.args.id c.args.now) (gone_out-id c.args.id c.args.now) s.by_arrival.entries _ c.self.invariant.indexes.ids);
         waiters = subst (AllIndexed c.leave_for_origin.new.waiting) (sym (c.get_mut.follows.holds c.go_forward.new.self).0)
             (waiters-written c.in-Some.arrival.now c.in-Some-get_mut.x.now c.go_forward.new.self s.by_arrival.entries s.waiting c.leave_for_origin.new.waiting (sym c.in-Some-get_mut.ensures.value)
             (ap (λ (x : Exchange). is_forwarded x.stage) c.go_forward.ensures) c.in_ok-leave_for_origin.ensures.left c.self.invariant.indexes.waiters);
@@ -52,13 +52,13 @@ invariant_of-self-2 c =
 
 pub returns-clause-ok : goal.returns-clause-ok
 returns-clause-ok c =
-    let is : (c.get_mut.follows.lender c.go_forward.new.self).entries ≡ map_exchanges (exchange_forwarded_again c.args.id c.args.now) c.self.inside.by_arrival.entries =
+    let is : (c.get_mut.follows.lender c.go_forward.new.self).entries ≡ exchanges_each_changed (exchange_after_second_forward c.args.id c.args.now) c.self.inside.by_arrival.entries =
     (c.get_mut.follows.holds c.go_forward.new.self).0
     ∙ gone_written c.args.id c.args.now c.in-Some.arrival.now c.in-Some-get_mut.x.now c.go_forward.new.self c.self.inside.by_arrival.entries (λ id. get nat_cmp c.self.inside.arrivals id) c.self.invariant.indexes.ids
     c.in-Some.ensures.value c.in-Some-get_mut.ensures.value c.go_forward.ensures in
     ap values_of is
-    ∙ (values_on_all (exchange_forwarded_again c.args.id c.args.now) c.self.inside.by_arrival.entries
-    ∙ ap (map (exchange_forwarded_again c.args.id c.args.now)) c.self.view_is)
+    ∙ (values_on_all (exchange_after_second_forward c.args.id c.args.now) c.self.inside.by_arrival.entries
+    ∙ ap (map (exchange_after_second_forward c.args.id c.args.now)) c.self.view_is)
 
 pub returns-in_default-get_mut : goal.returns-in_default-get_mut
 returns-in_default-get_mut c =
@@ -71,7 +71,7 @@ pub returns-in_default-clause-ok : goal.returns-in_default-clause-ok
 returns-in_default-clause-ok c =
     let es = c.self.inside.by_arrival.entries in
     let id = c.args.id in
-    let f : Exchange → Exchange = exchange_forwarded_again id c.args.now in
+    let f : Exchange → Exchange = exchange_after_second_forward id c.args.now in
     let none : arrival_number_of_id id es ≡ None = sym (c.self.invariant.indexes.ids.indexed id) ∙ sym c.in_default.ensures.value in
     sym c.self.view_is
     ∙ (ap values_of (sym (same_all id f (gone_out-others id c.args.now) es none))

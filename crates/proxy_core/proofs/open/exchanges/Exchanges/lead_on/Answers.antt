@@ -5,11 +5,11 @@ use Rattle.std.specs.BTreeSet.{contains}
 use Rattle.std.specs.Map.{values_of}
 use Rattle.proxy_core.specs.declared.open.exchange.Exchange.{Exchange}
 use Rattle.proxy_core.specs.Leading.{waits_for}
-use Rattle.proxy_core.specs.LeadingOn.{after_abandon}
-use Rattle.proxy_core.specs.Arrivals.{map_exchanges, IndexesMatchExchanges}
+use Rattle.proxy_core.specs.LeadingOn.{waiter_after_abandon}
+use Rattle.proxy_core.specs.Arrivals.{exchanges_each_changed, IndexesMatchExchanges}
 use Rattle.proxy_core.specs.ByKey.{ArrivalsByKeyAreExact}
-use Rattle.proxy_core.specs.Waiters.{is_in_wait_index, set_contains}
-use Rattle.proxy_core.specs.Releases.{may_be_released, ReleasedArrivalsPassTest}
+use Rattle.proxy_core.specs.Waiters.{arrival_is_in_wait_index, set_contains}
+use Rattle.proxy_core.specs.Releases.{arrival_may_be_released, ReleasedArrivalsPassTest}
 use Rattle.proxy_core.proofs.AskedArrivals.{asked-on_all}
 use Rattle.proxy_core.proofs.Releases.{pass-turned}
 use Rattle.proxy_core.proofs.ExchangeLists.{led_on-id}
@@ -37,8 +37,8 @@ settle-requires c =
     let es = s.by_arrival.entries in
     let waits = passes (λ x. waits_for q x.stage) (contains nat_cmp c.in-Some-take.waiting) es c.self.invariant.indexes.ids.apart
     (λ m. c.in-Some-take.ensures.all m ∙ (still_those q c.args.next.id c.in_ok-followers-in-Some.followers s.waiting c.enter_all.new.self c.requires c.in_ok-enter_all.ensures.ok m ∙ c.self.invariant.indexes.waiters q m)) in
-    subst (ReleasedArrivalsPassTest (may_be_released c.enter_all-in-Some-take.new.self)) (sym c.lead_each_on.ensures)
-    (pass-turned q (after_abandon c.args.config.now (Some c.args.next) q) (led_away c.args.config.now c.args.next q c.requires) (contains nat_cmp c.in-Some-take.waiting) s.released c.enter_all-in-Some-take.new.self es
+    subst (ReleasedArrivalsPassTest (arrival_may_be_released c.enter_all-in-Some-take.new.self)) (sym c.lead_each_on.ensures)
+    (pass-turned q (waiter_after_abandon c.args.config.now (Some c.args.next) q) (led_away c.args.config.now c.args.next q c.requires) (contains nat_cmp c.in-Some-take.waiting) s.released c.enter_all-in-Some-take.new.self es
     c.enter_all-in-Some-take.ensures.widened c.enter_all-in-Some-take.ensures.entered waits c.self.invariant.releases.within)
 
 -- there was no memory
@@ -63,9 +63,9 @@ invariant_of-self-in-Some-take c =
     let table = c.args.config.now in
     let next = c.args.next in
     let es = s.by_arrival.entries in
-    let f : Exchange → Exchange = after_abandon table (Some next) q in
+    let f : Exchange → Exchange = waiter_after_abandon table (Some next) q in
     record {
-      indexes = subst (λ (zs : List (ℕ × Exchange)). IndexesMatchExchanges zs (λ id. get nat_cmp s.arrivals id) (is_in_wait_index c.take.new.self)) (sym c.lead_each_on.ensures)
+      indexes = subst (λ (zs : List (ℕ × Exchange)). IndexesMatchExchanges zs (λ id. get nat_cmp s.arrivals id) (arrival_is_in_wait_index c.take.new.self)) (sym c.lead_each_on.ensures)
           (record {
             ids = indexed_on_all f (led_on-id table (Some next) q) es _ c.self.invariant.indexes.ids;
             waiters = waiters-led_on table next q c.requires es c.in_ok-followers-in-Some.followers c.in-Some.waiting.now s.waiting c.enter_all.new.self c.take.new.self
@@ -79,15 +79,15 @@ invariant_of-self-in-Some-take c =
 
 pub returns-in-Some-take-clause-ok : goal.returns-in-Some-take-clause-ok
 returns-in-Some-take-clause-ok c =
-    let f : Exchange → Exchange = after_abandon c.args.config.now (Some c.args.next) c.args.id in
+    let f : Exchange → Exchange = waiter_after_abandon c.args.config.now (Some c.args.next) c.args.id in
     ap values_of c.lead_each_on.ensures ∙ (values_on_all f c.self.inside.by_arrival.entries ∙ ap (map f) c.self.view_is)
 
 -- none waits for it
-nobody_behind : (c : goal.In_default) → map_exchanges (after_abandon c.args.config.now (Some c.args.next) c.args.id) c.self.inside.by_arrival.entries ≡ c.self.inside.by_arrival.entries
+nobody_behind : (c : goal.In_default) → exchanges_each_changed (waiter_after_abandon c.args.config.now (Some c.args.next) c.args.id) c.self.inside.by_arrival.entries ≡ c.self.inside.by_arrival.entries
 nobody_behind c =
     let s = c.self.inside in
     let q = c.args.id in
-    none_turned q (after_abandon c.args.config.now (Some c.args.next) q) (led_away c.args.config.now c.args.next q c.requires) s.by_arrival.entries
+    none_turned q (waiter_after_abandon c.args.config.now (Some c.args.next) q) (led_away c.args.config.now c.args.next q c.requires) s.by_arrival.entries
     (passes (λ x. waits_for q x.stage) (λ n. false) s.by_arrival.entries c.self.invariant.indexes.ids.apart
     (λ m. c.in_default.ensures.all m ∙ (still_those q c.args.next.id c.in_ok-followers-in-Some.followers s.waiting c.enter_all.new.self c.requires c.in_ok-enter_all.ensures.ok m ∙ c.self.invariant.indexes.waiters q m)))
 
@@ -98,9 +98,9 @@ invariant_of-self-in_default c =
     let table = c.args.config.now in
     let next = c.args.next in
     let es = s.by_arrival.entries in
-    let f : Exchange → Exchange = after_abandon table (Some next) q in
+    let f : Exchange → Exchange = waiter_after_abandon table (Some next) q in
     record {
-      indexes = subst (λ (zs : List (ℕ × Exchange)). IndexesMatchExchanges zs (λ id. get nat_cmp s.arrivals id) (is_in_wait_index c.take.new.self)) (nobody_behind c)
+      indexes = subst (λ (zs : List (ℕ × Exchange)). IndexesMatchExchanges zs (λ id. get nat_cmp s.arrivals id) (arrival_is_in_wait_index c.take.new.self)) (nobody_behind c)
           (record {
             ids = indexed_on_all f (led_on-id table (Some next) q) es _ c.self.invariant.indexes.ids;
             waiters = waiters-led_on table next q c.requires es c.in_ok-followers-in-Some.followers c.in-Some.waiting.now s.waiting c.enter_all.new.self c.take.new.self
@@ -114,7 +114,7 @@ invariant_of-self-in_default c =
 
 pub returns-in_default-clause-ok : goal.returns-in_default-clause-ok
 returns-in_default-clause-ok c =
-    let f : Exchange → Exchange = after_abandon c.args.config.now (Some c.args.next) c.args.id in
+    let f : Exchange → Exchange = waiter_after_abandon c.args.config.now (Some c.args.next) c.args.id in
     ap values_of (sym (nobody_behind c)) ∙ (values_on_all f c.self.inside.by_arrival.entries ∙ ap (map f) c.self.view_is)
 
 pub returns-in-None-clause-ok : goal.returns-in-None-clause-ok
@@ -122,7 +122,7 @@ returns-in-None-clause-ok c =
     let s = c.self.inside in
     let q = c.args.id in
     let es = s.by_arrival.entries in
-    let f : Exchange → Exchange = after_abandon c.args.config.now (Some c.args.next) q in
-    let nobody : map_exchanges f es ≡ es = none_turned q f (led_away c.args.config.now c.args.next q c.requires) es
+    let f : Exchange → Exchange = waiter_after_abandon c.args.config.now (Some c.args.next) q in
+    let nobody : exchanges_each_changed f es ≡ es = none_turned q f (led_away c.args.config.now c.args.next q c.requires) es
     (passes (λ x. waits_for q x.stage) (λ n. false) es c.self.invariant.indexes.ids.apart (λ m. ap (λ o. set_contains o m) c.in-None.ensures ∙ c.self.invariant.indexes.waiters q m)) in
     sym c.self.view_is ∙ (ap values_of (sym nobody) ∙ (values_on_all f es ∙ ap (map f) c.self.view_is))

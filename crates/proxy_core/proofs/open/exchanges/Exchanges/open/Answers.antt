@@ -7,8 +7,8 @@ use Rattle.proxy_core.specs.Outcomes.{find_exchange}
 use Rattle.proxy_core.specs.Arrivals.{IndexesMatchExchanges}
 use Rattle.proxy_core.specs.ByKey.{ArrivalsByKeyAreExact}
 use Rattle.proxy_core.proofs.AskedArrivals.{asked-entered, asked-again, asked-not}
-use Rattle.proxy_core.specs.Waiters.{is_in_wait_index}
-use Rattle.proxy_core.specs.Releases.{may_be_released, ReleasedArrivalsPassTest}
+use Rattle.proxy_core.specs.Waiters.{arrival_is_in_wait_index}
+use Rattle.proxy_core.specs.Releases.{arrival_may_be_released, ReleasedArrivalsPassTest}
 use Rattle.proxy_core.specs.ExchangeIndexes.{ExchangeIndexesAreExact}
 use Rattle.proxy_core.proofs.Releases.{pass-entered}
 use Rattle.proxy_core.proofs.Waiters.{waiters-entered, waiters-again, waiters-not}
@@ -26,7 +26,7 @@ enter-requires-clause-asks_not c =
 pub settle-requires : goal.settle-requires
 settle-requires c =
     let s = c.self.inside in
-    subst (ReleasedArrivalsPassTest (may_be_released c.enter-in-Ok.new.self)) (sym c.in-Ok.ensures.ok)
+    subst (ReleasedArrivalsPassTest (arrival_may_be_released c.enter-in-Ok.new.self)) (sym c.in-Ok.ensures.ok)
     (pass-entered c.in_ok-arrival.arrival c.args.exchange s.released c.enter-in-Ok.new.self s.by_arrival.entries c.enter-in-Ok.ensures.widened c.enter-in-Ok.ensures.entered c.self.invariant.releases.within)
 
 pub invariant_of-self-in-Ok : goal.invariant_of-self-in-Ok
@@ -38,7 +38,7 @@ invariant_of-self-in-Ok c =
     let i = c.self.invariant.indexes in
     let free : find_exchange x.id (values_of es) ≡ None = ap (find_exchange x.id) c.self.view_is ∙ c.requires in
     record {
-      indexes = subst (λ (zs : List (ℕ × Exchange)). IndexesMatchExchanges zs (λ id. get nat_cmp c.insert.new.self id) (is_in_wait_index c.enter.new.waiting)) (sym c.in-Ok.ensures.ok)
+      indexes = subst (λ (zs : List (ℕ × Exchange)). IndexesMatchExchanges zs (λ id. get nat_cmp c.insert.new.self id) (arrival_is_in_wait_index c.enter.new.waiting)) (sym c.in-Ok.ensures.ok)
           (record {
             ids = indexed_opened n x es (λ id. get nat_cmp s.arrivals id) (λ id. get nat_cmp c.insert.new.self id) c.in_ok-arrival.ensures i.ids free (λ q. c.in_ok-insert.ensures.updates.0 q);
             waiters = waiters-entered n x es s.waiting c.enter.new.waiting c.in_ok-arrival.ensures c.in-Ok.ensures.entered i.waiters;

@@ -7,8 +7,8 @@ use Rattle.proxy_core.specs.declared.open.exchange.Exchange.{Exchange}
 use Rattle.proxy_core.specs.Arrivals.{IndexesMatchExchanges, IsIdIndexOf, arrival_number_of_id}
 use Rattle.proxy_core.specs.ByKey.{ArrivalsByKeyAreExact}
 use Rattle.proxy_core.proofs.AskedArrivals.{asked-closed}
-use Rattle.proxy_core.specs.Waiters.{is_in_wait_index}
-use Rattle.proxy_core.specs.Releases.{may_be_released, ReleasedArrivalsPassTest}
+use Rattle.proxy_core.specs.Waiters.{arrival_is_in_wait_index}
+use Rattle.proxy_core.specs.Releases.{arrival_may_be_released, ReleasedArrivalsPassTest}
 use Rattle.proxy_core.proofs.Releases.{pass-closed}
 use Rattle.proxy_core.proofs.Waiters.{waiters-closed}
 use Rattle.proxy_core.specs.Outcomes.{find_exchange}
@@ -18,8 +18,8 @@ use Rattle.proxy_core.proofs.open.exchanges.Exchanges.remove_from_index.Goals as
 pub settle-requires : goal.settle-requires
 settle-requires c =
     let s = c.self.inside in
-    subst (ReleasedArrivalsPassTest (may_be_released s.released)) (sym c.remove-taken.ensures.entries)
-    (pass-closed c.in_ok-arrival.arrival (may_be_released s.released) s.by_arrival.entries c.self.invariant.indexes.ids.apart c.self.invariant.releases.within)
+    subst (ReleasedArrivalsPassTest (arrival_may_be_released s.released)) (sym c.remove-taken.ensures.entries)
+    (pass-closed c.in_ok-arrival.arrival (arrival_may_be_released s.released) s.by_arrival.entries c.self.invariant.indexes.ids.apart c.self.invariant.releases.within)
 
 -- the exchange that goes
 its_own : (id n : ℕ) (es : List (ℕ × Exchange)) (f : ℕ → Option ℕ) → IsIdIndexOf es f → Some n ≡ f id → (x : Exchange) × (lookup (is_at (nat_cmp n)) es ≡ Some x)
@@ -37,7 +37,7 @@ invariant_of-self-2 c =
     let n = c.in_ok-arrival.arrival in
     let x = its_own c.args.id n es (λ id. get nat_cmp s.arrivals id) i.ids c.in_ok-arrival.ensures.value in
     record {
-      indexes = subst (λ (zs : List (ℕ × Exchange)). IndexesMatchExchanges zs (λ id. get nat_cmp c.remove.new.self id) (is_in_wait_index c.remove-taken.new.waiting)) (sym c.remove-taken.ensures.entries)
+      indexes = subst (λ (zs : List (ℕ × Exchange)). IndexesMatchExchanges zs (λ id. get nat_cmp c.remove.new.self id) (arrival_is_in_wait_index c.remove-taken.new.waiting)) (sym c.remove-taken.ensures.entries)
           (record {
             ids = indexed_closed c.args.id n es (λ id. get nat_cmp s.arrivals id) (λ id. get nat_cmp c.remove.new.self id) i.ids (sym c.in_ok-arrival.ensures.value) (λ q. c.remove.ensures.updates.0 q);
             waiters = waiters-closed n x.0 es s.waiting c.remove-taken.new.waiting i.ids.apart x.1 (c.remove-taken.ensures.left x.0 x.1) i.waiters;

@@ -2,7 +2,7 @@ use Rattle.std.proofs.Common.{◌≡◌, ℕ, List, IfOk, ap, subst, ◌∙◌}
 use Rattle.std.specs.Prelude.{length, Some}
 use Rattle.hx_fields.specs.Line.{Field}
 use Rattle.hx_framing.specs.Text.{response_text}
-use Rattle.proxy_core.specs.Abouts.{about_stored_response_sent}
+use Rattle.proxy_core.specs.Abouts.{report_of_stored_response_sent}
 use Rattle.proxy_core.specs.Replies.{content_unless_head, fields_of_sent_response, is_head}
 use Rattle.proxy_core.proofs.replies.stored_reply.StoredReply.written_in_form.Goals as goal
 
@@ -20,4 +20,4 @@ returns-clause-about c =
     let reply = c.args.self.now in
     let content_is = c.content_unless_head-content.ensures ∙ ap (λ b. content_unless_head b c.args.content.now) c.is_head.ensures in
     subst (λ (content : List ℕ). IfOk c.written.result (λ sent. sent.about
-    ≡ about_stored_response_sent c.args.status content reply.entry.now reply.sent_at reply.info)) content_is c.written.ensures.about
+    ≡ report_of_stored_response_sent c.args.status content reply.entry.now reply.sent_at reply.info)) content_is c.written.ensures.about

@@ -1,5 +1,5 @@
 use Rattle.std.proofs.Common.{ℕ, length, nat_lt, sym, ap, subst, arith}
-use Rattle.proxy_engine.specs.Held.{open_end_has_flag, holds_of_any_end}
+use Rattle.proxy_engine.specs.Held.{open_end_has_flag, is_true_of_every_end}
 use Rattle.proxy_engine.specs.Reading.{places_with_flag}
 use Rattle.proxy_engine.specs.State.{ListsAreRelated, ConnectionRepresents}
 use Rattle.proxy_engine.specs.Marked.{EndList}
@@ -14,7 +14,7 @@ returns c = λ ss both.
     let items = c.self.inside.ends.items in
     let here = subst (λ (v : EndList Connection). ListsAreRelated ConnectionRepresents v.items ss) (sym c.self.view_is) both in
     let all = open_or_lost items ss here 0 in
-    let kept = ap (λ (v : Inside). length (places_with_flag (open_end_has_flag holds_of_any_end) 0 v.ends.items)) c.self-inside.view_is in
+    let kept = ap (λ (v : Inside). length (places_with_flag (open_end_has_flag is_true_of_every_end) 0 v.ends.items)) c.self-inside.view_is in
     let live = ap length (open_places items ss here) in
     let left = c.saturating_sub.ensures in
-    ap (λ (n : ℕ). nat_lt n c.args.most) (omega (arith, left, c.open_end_count-kept.ensures, c.lost_count-gone.ensures, kept, all, live))
+    ap (λ (n : ℕ). nat_lt n c.args.most) (omega (arith, left, c.open_end_count-kept.ensures, c.disconnected_exchange_count-gone.ensures, kept, all, live))

@@ -3,7 +3,7 @@ use Rattle.std.specs.Ordering.{nat_cmp}
 use Rattle.std.specs.BTreeMap.{get}
 use Rattle.proxy_engine.specs.ReadyList.{entries_below}
 use Rattle.proxy_engine.specs.Room.{SpareRoomIsReleased}
-use Rattle.proxy_engine.specs.Marked.{EndList, end_if_open_at, DiffersOnlyInSpareRoom, PlacesAreRelated}
+use Rattle.proxy_engine.specs.Marked.{EndList, end_if_open_at, DiffersOnlyInSpareRoom, ContentsOfPlacesAreRelated}
 use Rattle.proxy_engine.proofs.Keeping.{listed_at, listed_length}
 use Rattle.proxy_engine.proofs.Marking.{marked_alike, alike_some, alike_refl, none_alike}
 use Rattle.proxy_engine.proofs.Finding.{alike_listed}
@@ -37,7 +37,7 @@ returns-clause-given g c = rw (← c.key-key.ensures) (
 pub returns-clause-alike : goal.returns-clause-alike
 returns-clause-alike g c =
     let differs = DiffersOnlyInSpareRoom g.E.Endpoint.LooksLike g.E.Endpoint.may_show in
-    subst (λ (v : EndList g.row.E.Denot). PlacesAreRelated differs (end_if_open_at v.items) (end_if_open_at (entries_below c.release_room_of_end_at.new.ends c.self.inside.count))) c.self.view_is
+    subst (λ (v : EndList g.row.E.Denot). ContentsOfPlacesAreRelated differs (end_if_open_at v.items) (end_if_open_at (entries_below c.release_room_of_end_at.new.ends c.self.inside.count))) c.self.view_is
     (alike_listed differs c.self.inside.ends c.release_room_of_end_at.new.ends c.self.inside.count c.release_room_of_end_at.ensures.alike)
 
 pub returns-clause-length : goal.returns-clause-length

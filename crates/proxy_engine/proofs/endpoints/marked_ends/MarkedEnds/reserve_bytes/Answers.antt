@@ -2,8 +2,8 @@ use Rattle.std.proofs.Common.{◌∙◌, refl, sym, ap, subst, arith, length}
 use Rattle.std.specs.Ordering.{nat_cmp}
 use Rattle.std.specs.BTreeMap.{get}
 use Rattle.proxy_engine.specs.ReadyList.{entries_below}
-use Rattle.proxy_engine.specs.Room.{HasSpareBytes, most_bytes_of_read}
-use Rattle.proxy_engine.specs.Marked.{EndList, end_if_open_at, DiffersOnlyInSpareRoom, PlacesAreRelated}
+use Rattle.proxy_engine.specs.Room.{HasRoomForBytes, most_bytes_of_read}
+use Rattle.proxy_engine.specs.Marked.{EndList, end_if_open_at, DiffersOnlyInSpareRoom, ContentsOfPlacesAreRelated}
 use Rattle.proxy_engine.proofs.Keeping.{listed_at, listed_same, listed_length}
 use Rattle.proxy_engine.proofs.Marking.{marked_alike, alike_some, alike_refl, same_list, none_alike}
 use Rattle.proxy_engine.proofs.Finding.{alike_listed}
@@ -26,7 +26,7 @@ invariant_of-self g c =
 pub returns-then-key-self-clause-ok : goal.returns-then-key-self-clause-ok
 returns-then-key-self-clause-ok g c =
     let len = ap (λ (v : EndList g.row.E.Denot). length v.items) c.self.view_is in
-    rw (← c.key-key.ensures) (subst (λ o. HasSpareBytes g.E.Endpoint.spare o most_bytes_of_read) (sym (beyond c.args.self.now.items c.key-key.result (omega (arith, len, listed_length c.self.inside.ends c.self.inside.count, c.if-key-self.true)))) tt)
+    rw (← c.key-key.ensures) (subst (λ o. HasRoomForBytes g.E.Endpoint.spare o most_bytes_of_read) (sym (beyond c.args.self.now.items c.key-key.result (omega (arith, len, listed_length c.self.inside.ends c.self.inside.count, c.if-key-self.true)))) tt)
 
 pub returns-then-key-self-clause-grows : goal.returns-then-key-self-clause-grows
 returns-then-key-self-clause-grows g c = alike_refl (DiffersOnlyInSpareRoom g.E.Endpoint.LooksLike g.E.Endpoint.may_show) (λ x. record { alike = g.met.E.Endpoint.looks_like_itself x; shows = refl }) _
@@ -34,13 +34,13 @@ returns-then-key-self-clause-grows g c = alike_refl (DiffersOnlyInSpareRoom g.E.
 pub returns-clause-ok : goal.returns-clause-ok
 returns-clause-ok g c = rw (← c.key-key.ensures) (
     does_ok c.reserve_piece_at.result _ _
-    (λ roomy. subst (λ o. HasSpareBytes g.E.Endpoint.spare o most_bytes_of_read) (sym (listed_at c.reserve_piece_at.new.ends c.self.inside.count c.key-key.result _ c.if-key-self.false)) roomy)
+    (λ roomy. subst (λ o. HasRoomForBytes g.E.Endpoint.spare o most_bytes_of_read) (sym (listed_at c.reserve_piece_at.new.ends c.self.inside.count c.key-key.result _ c.if-key-self.false)) roomy)
     c.reserve_piece_at.ensures.ok)
 
 pub returns-clause-grows : goal.returns-clause-grows
 returns-clause-grows g c =
     let grows = DiffersOnlyInSpareRoom g.E.Endpoint.LooksLike g.E.Endpoint.may_show in
-    subst (λ (v : EndList g.row.E.Denot). PlacesAreRelated grows (end_if_open_at v.items) (end_if_open_at (entries_below c.reserve_piece_at.new.ends c.self.inside.count))) c.self.view_is
+    subst (λ (v : EndList g.row.E.Denot). ContentsOfPlacesAreRelated grows (end_if_open_at v.items) (end_if_open_at (entries_below c.reserve_piece_at.new.ends c.self.inside.count))) c.self.view_is
     (alike_listed grows c.self.inside.ends c.reserve_piece_at.new.ends c.self.inside.count c.reserve_piece_at.ensures.grows)
 
 pub returns-clause-length : goal.returns-clause-length

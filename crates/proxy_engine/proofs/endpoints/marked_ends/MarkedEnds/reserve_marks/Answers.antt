@@ -8,4 +8,4 @@ pub returns-clause-ok : goal.returns-clause-ok
 returns-clause-ok g c =
     let most = kept_listed c.self.inside.ends c.self.inside.count in
     let same = ap (λ (v : EndList g.row.E.Denot). open_end_count v.items) c.self.view_is in
-    does_ok c.reserve_beside.result _ _ (λ room. omega (arith, room, most, same)) c.reserve_beside.ensures.ok
+    does_ok c.reserve_for_open_ends.result _ _ (λ room. omega (arith, room, most, same)) c.reserve_for_open_ends.ensures.ok

@@ -1,6 +1,0 @@
-use Rattle.std.proofs.Common.{◌≡◌, drop}
-use Rattle.hx_allow.specs.Purges.{shows_purge_key}
-use Rattle.hx_allow.proofs.purges.shows_purge_key.Given as goal
-
-abbrev pub invariant-loop-line : goal.invariant-loop-line
-invariant-loop-line l = shows_purge_key l.key (drop l.line-index l.fields) ≡ shows_purge_key l.key l.fields

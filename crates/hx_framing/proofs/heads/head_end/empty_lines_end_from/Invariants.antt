@@ -1,0 +1,12 @@
+use Rattle.std.proofs.Common.{◌≡◌, ◌≤◌, ◌-◌, drop, length}
+use Rattle.hx_framing.specs.HeadEnd.{empty_lines_end_from}
+use Rattle.hx_framing.proofs.heads.head_end.empty_lines_end_from.Given as goal
+
+abbrev pub invariant-loop-at : goal.invariant-loop-at
+invariant-loop-at l = record {
+  within : l.at ≤ length l.bytes;
+  rest : empty_lines_end_from l.at (drop l.at l.bytes) ≡ empty_lines_end_from l.from (drop l.from l.bytes);
+}
+
+abbrev pub decreases-loop-at : goal.decreases-loop-at
+decreases-loop-at l = length l.bytes - l.at

@@ -1,8 +1,0 @@
-use Rattle.hx_framing.proofs.Existence.{request_read, request_answered}
-use Rattle.hx_framing.proofs.laws.existence_laws.each_request_stream_is_read.Goals as goal
-
-pub returns-clause-reading : goal.returns-clause-reading
-returns-clause-reading c = request_read
-
-pub returns-clause-answer : goal.returns-clause-answer
-returns-clause-answer c = request_answered

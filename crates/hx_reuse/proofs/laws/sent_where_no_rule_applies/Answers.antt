@@ -1,5 +1,0 @@
-use Rattle.hx_reuse.proofs.MeaningLemmas.{is_sent, may_be_sent}
-use Rattle.hx_reuse.proofs.laws.sent_where_no_rule_applies.Goals as goal
-
-pub returns : goal.returns
-returns c = record { every = is_sent; only = may_be_sent }

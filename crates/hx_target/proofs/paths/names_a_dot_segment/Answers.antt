@@ -1,5 +1,0 @@
-use Rattle.hx_target.proofs.TableSegments.{dots-table}
-use Rattle.hx_target.proofs.paths.names_a_dot_segment.Goals as goal
-
-pub segments-init : goal.segments-init
-segments-init c = dots-table c.args.path.now

@@ -1,5 +1,0 @@
-use Rattle.proxy_core_laws.proofs.TagsSent.{passes_no_tag, sends_no_tag}
-use Rattle.proxy_core_laws.proofs.tag_laws.no_cache_tag_is_sent_to_a_client.Goals as goal
-
-pub returns : goal.returns
-returns c = record { sent = sends_no_tag; passed = passes_no_tag }
