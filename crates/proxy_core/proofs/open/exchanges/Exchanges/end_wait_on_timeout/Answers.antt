@@ -11,9 +11,9 @@ use Rattle.proxy_core.specs.ExchangeIndexes.{ExchangeIndexesAreExact}
 use Rattle.proxy_core.specs.Arrivals.{exchanges_each_changed, IsIdIndexOf, arrival_number_of_id}
 use Rattle.proxy_core.proofs.AskedArrivals.{asked-on_all, written_again}
 use Rattle.proxy_core.proofs.Waiters.{AllIndexed}
-use Rattle.proxy_core.proofs.ExchangeLists.{end_wait_on_timeout-id}
+use Rattle.proxy_core.proofs.ExchangeLists.{overdue-id}
 use Rattle.proxy_core.proofs.Arrivals.{indexed_on_all, values_on_all, same_all, has_number}
-use Rattle.proxy_core.proofs.OverdueArrivals.{none_overdue, end_wait_on_timeout-others, end_wait_on_timeout-place, overdue_written, pass-lapsed, waiters-past}
+use Rattle.proxy_core.proofs.OverdueArrivals.{none_overdue, overdue-others, overdue-place, overdue_written, pass-lapsed, waiters-past}
 use Rattle.proxy_core.proofs.open.exchanges.Exchanges.end_wait_on_timeout.Goals as goal
 
 pub settle-requires : goal.settle-requires
@@ -39,12 +39,12 @@ invariant_of-self-then-is_waiting c =
     record {
       indexes = record {
         ids = subst (λ (zs : List (ℕ × Exchange)). IsIdIndexOf zs (λ id. get nat_cmp s.arrivals id)) (sym is)
-            (indexed_on_all f (end_wait_on_timeout-id id) es _ c.self.invariant.indexes.ids);
+            (indexed_on_all f (overdue-id id) es _ c.self.invariant.indexes.ids);
         waiters = subst (AllIndexed c.remove_arrival.new.self) (sym (c.get_mut.follows.holds y).0)
             (waiters-past n x y es s.waiting c.remove_arrival.new.self (sym c.in-Some-get_mut.ensures.value) c.stop_waiting.ensures c.remove_arrival.ensures.left c.self.invariant.indexes.waiters);
       };
       releases = c.settle.ensures.settled;
-      asking = subst (ArrivalsByKeyAreExact s.by_key) (sym is) (asked-on_all f (end_wait_on_timeout-place id) es s.by_key c.self.invariant.asking);
+      asking = subst (ArrivalsByKeyAreExact s.by_key) (sym is) (asked-on_all f (overdue-place id) es s.by_key c.self.invariant.asking);
       no_empty_waiter_sets = c.remove_arrival.ensures.trim c.self.invariant.no_empty_waiter_sets;
       no_empty_keys = c.self.invariant.no_empty_keys;
     }
@@ -99,7 +99,7 @@ returns-in_default c =
     let f : Exchange → Exchange = exchange_after_wait_timeout id in
     let none : arrival_number_of_id id es ≡ None = sym (c.self.invariant.indexes.ids.indexed id) ∙ sym c.in_default.ensures.value in
     sym c.self.view_is
-    ∙ (ap values_of (sym (same_all id f (end_wait_on_timeout-others id) es none))
+    ∙ (ap values_of (sym (same_all id f (overdue-others id) es none))
     ∙ (values_on_all f es ∙ ap (map f) c.self.view_is))
 
 pub invariant_of-self : goal.invariant_of-self
