@@ -2,7 +2,7 @@
 //!
 //! `specs/EngineModel.antt` says what an engine has lived through, `specs/Due.antt` which act is due first, and
 //! `specs/Acts.antt` what each act does. Its readers are asked ahead: what one answers is kept until it is used.
-//! `specs/Peeked.antt` says for which streams such a reader stands. Nothing here opens a socket.
+//! `specs/PeekableReader.antt` says for which streams such a reader stands. Nothing here opens a socket.
 #![tactic(auto)]
 
 mod endpoints;

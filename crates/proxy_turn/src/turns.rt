@@ -16,7 +16,7 @@ ghost use Rattle.proxy_turn.specs.OverParts.{ListenerIsAskedAtMostOnce, Connecti
 use crate::bounds::TurnAcceptBounds;
 use crate::effects::{carry_out, take};
 use crate::happenings::happening_of_read;
-use crate::limits::{MOST_ACTS_OF_A_TURN, MOST_EFFECTS_OF_AN_ACT, MOST_OPEN_CONNECTIONS};
+use crate::limits::{MOST_ACTS_OF_A_TURN, MOST_CONNECTIONS_OF_A_TURN, MOST_EFFECTS_OF_AN_ACT};
 use crate::report::{Report, TurnFault};
 use crate::sockets::Sockets;
 use hx_store::Shelf;
@@ -289,7 +289,7 @@ pub fn turn_with_buffer<S: Shelf, K: Sockets>(
         return Err(TurnFault::NoMemory);
     };
     let bounds = TurnAcceptBounds {
-        most_open: MOST_OPEN_CONNECTIONS,
+        most_open: MOST_CONNECTIONS_OF_A_TURN,
         most_accepts: 1,
     };
     turn_over_given_ends(engine, sockets, alloc, now, bounds, &mut ends, buf)
