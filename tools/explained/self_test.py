@@ -166,7 +166,7 @@ def of_texts(found):
             keys = [it.key for it in found.of(text) if it.key.startswith("storing-")]
             yield text, [] if keys == [f"storing-{number}"] else [f"{text} is taken for {keys}"]
     lines = [
-        *sources.texts("config_fault_line", "ConfigFault").values(),
+        *sources.texts("table_fault_line", "TableFault").values(),
         *sources.texts("engine_fault_line", "EngineFault").values(),
     ]
     lines += [*sources.texts("fault_line", "ReplayFault").values(), *sources.said()]

@@ -169,7 +169,7 @@ fn outcome_of(
                 .map(|done| done.outcome),
         ),
         What::Abandoned => Ok(core.abandon(happens.id)),
-        What::Overdue => Ok(core.overdue(happens.id)),
+        What::Overdue => Ok(core.end_wait_on_timeout(happens.id)),
     }
 }
 

@@ -11,7 +11,7 @@ use hx_hop::{Answered, Conditions};
 use hx_store::Entry;
 use hx_validate::{
     answers, client_wants_304, client_wants_304_for_answer, conditions, freshened, has_validator,
-    not_modified, not_modified_fields_of_answer,
+    not_modified_fields, not_modified_fields_of_answer,
 };
 use hx_vary::FieldNames;
 use std::alloc::{AllocError, Global};
@@ -163,6 +163,6 @@ pub fn not_modified_lines(
         return Ok(write_fields(text, &fields)?);
     }
     let entry = stored_of(*text.allocator(), stored)?;
-    let fields = not_modified(*text.allocator(), &entry)?;
+    let fields = not_modified_fields(*text.allocator(), &entry)?;
     Ok(write_fields(text, &fields)?)
 }
