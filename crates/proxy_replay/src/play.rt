@@ -1,7 +1,7 @@
 //! The replay of a script: its table is read, and its items are played one by one.
 ghost use Rattle.std.specs.Prelude.{◌≡◌, ◌≤◌, length, false, [], IfOk, IfErr, MatchOption};
 ghost use Rattle.proxy_script.specs.ScriptLines.{is_config};
-ghost use Rattle.proxy_script.specs.Script.{model_of_item, line_of_item, Table};
+ghost use Rattle.proxy_script.specs.Script.{model_of_item, line_of_item, Table as TableItem};
 ghost use Rattle.proxy_replay.specs.Bytes.{script_limit};
 ghost use Rattle.proxy_replay.specs.Replay.{ReplayWritesAndEnds, IsStreamReplayOverEmptyStore};
 ghost use Rattle.proxy_replay.specs.Replay.{ReplayOverAStoreReadsAndEnds};
@@ -24,7 +24,7 @@ use std::io::{Read, Write};
 /// The bytes of a table, where the item is one.
 fn table_of_item(item: Item<'_>) -> Option<&[u8]>
     ensures { MatchOption result (is_config (line_of_item (model_of_item item.entry)) ≡ false)
-        (λ table. model_of_item item.entry ≡ Table table.now) }
+        (λ table. model_of_item item.entry ≡ TableItem table.now) }
 {
     match item {
         Item::Config(table) => Some(table),
