@@ -1,7 +1,7 @@
 use Rattle.std.proofs.Common.{[], ◌∷◌, true, ◌≡◌, refl, sym, ap, subst, Bool, is_ok, is_some}
 use Rattle.proxy_turn.specs.Calls.{Connect}
 use Rattle.proxy_record.proofs.Passing.{passes_reported, noted_reported}
-use Rattle.proxy_record.proofs.recording.RecordingSockets.connect.Goals as goal
+use Rattle.proxy_record.proofs.recording.RecordedSocketsSockets.connect.Goals as goal
 
 pub returns-clause-did : goal.returns-clause-did
 returns-clause-did g c = (

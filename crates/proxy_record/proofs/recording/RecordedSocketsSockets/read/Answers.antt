@@ -5,8 +5,8 @@ use Rattle.proxy_script.specs.Happenings.{model_of_happening}
 use Rattle.proxy_turn.specs.Calls.{Read, Nothing, read_outcome_of}
 use Rattle.proxy_record.specs.Recorded.{TurnIsRecorded}
 use Rattle.proxy_record.proofs.Passing.{passes_it, passes_nothing, passes_unread, noted_some, noted_none_given, noted_nothing}
-use Rattle.proxy_record.proofs.recording.RecordingSockets.read.Goals as goal
-use Rattle.proxy_record.proofs.recording.RecordingSockets.read.Goals.{in-Some+else-not-note, in-None}
+use Rattle.proxy_record.proofs.recording.RecordedSocketsSockets.read.Goals as goal
+use Rattle.proxy_record.proofs.recording.RecordedSocketsSockets.read.Goals.{in-Some+else-not-note, in-None}
 
 pub returns-then-has_to_wait-clause-did : goal.returns-then-has_to_wait-clause-did
 returns-then-has_to_wait-clause-did g c = (λ failed. failed, [], g.met.K.Sockets.none c.args.self.now.sockets, passes_unread (is_some c.args.self.now.fault) _, λ ok. noted_nothing _ _ _ (Read _ Nothing) refl refl, refl)

@@ -2,7 +2,7 @@ use Rattle.std.proofs.Common.{[], ◌∷◌, true, ◌≡◌, refl, sym, ap, sub
 use Rattle.std.specs.Option.{option_copied}
 use Rattle.proxy_turn.specs.Calls.{Write}
 use Rattle.proxy_record.proofs.Passing.{passes_reported, noted_reported}
-use Rattle.proxy_record.proofs.recording.RecordingSockets.write.Goals as goal
+use Rattle.proxy_record.proofs.recording.RecordedSocketsSockets.write.Goals as goal
 
 pub returns-clause-did : goal.returns-clause-did
 returns-clause-did g c = (

@@ -1,7 +1,7 @@
 use Rattle.std.proofs.Common.{[], is_some, refl, sym, ◌∙◌}
 use Rattle.proxy_turn.specs.Calls.{Accept, Failed, NoneCame}
 use Rattle.proxy_record.proofs.Passing.{passes_it, passes_came, passes_none, passes_nobody, noted_came, noted_nothing, is_reported}
-use Rattle.proxy_record.proofs.recording.RecordingSockets.accept.Goals as goal
+use Rattle.proxy_record.proofs.recording.RecordedSocketsSockets.accept.Goals as goal
 
 pub returns-then-not-may_take_a_happening-clause-did : goal.returns-then-not-may_take_a_happening-clause-did
 returns-then-not-may_take_a_happening-clause-did g c = (λ failed. failed, [], g.met.K.Sockets.none c.args.self.now.sockets, passes_nobody (is_some c.args.self.now.fault) _, λ ok. noted_nothing _ _ _ (Accept _ NoneCame) refl refl, refl)
